@@ -1,0 +1,1 @@
+// Admission: a table is admitted exactly when it keeps the rules.

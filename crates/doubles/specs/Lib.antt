@@ -1,0 +1,3 @@
+pub mod Set
+pub mod Stands
+pub mod Examples

@@ -1,0 +1,4 @@
+pub mod Integers
+pub mod Set
+pub mod Stands
+pub mod Examples

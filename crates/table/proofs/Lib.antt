@@ -1,0 +1,10 @@
+pub mod AcceptedParts
+pub mod AcceptedEquations
+pub mod Accepted
+pub mod Built
+pub mod Tracked
+pub mod Growing
+pub mod Steps
+pub mod Heads
+pub mod Sound
+pub mod Whole

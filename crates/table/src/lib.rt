@@ -1,0 +1,15 @@
+// Tables: what they are made of, and reading one from its words.
+ghost use mathlib.Core.Path.{_≡_};
+ghost use Rattle.reader.specs.Whole.{scanOf};
+ghost use Rattle.table.specs.Spelling.{Reads};
+use opset::OperatorSet;
+use reader::Outline;
+use reader::ReadFault;
+
+/// The outline of the table that the words spell for the operator set, or the first fault of words that spell none.
+pub fn read<S: OperatorSet>(words: &[u32]) -> Result<Outline, ReadFault>
+    ensures value { λ r. ⌜ r ≡ scanOf (S·OperatorSet .numbered) (now (words .entry)) ⌝ }
+    ensures spelled { λ r. ⌜ Reads (S·OperatorSet .numbered) (now (words .entry)) r ⌝ }
+{
+    reader::scan_words(S::set_number(), words)
+}
