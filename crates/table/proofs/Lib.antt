@@ -7,4 +7,5 @@ pub mod Growing
 pub mod Steps
 pub mod Heads
 pub mod Sound
+pub mod Decoded
 pub mod Whole

@@ -19,7 +19,8 @@ use Rattle.reader.specs.declared.scan.Expect.the-variants.{Head as Due-head, No
 use Rattle.reader.specs.declared.scan.Scan.{Scan}
 use Rattle.reader.specs.Scanning.{Fed, feedBy, feedOf, mayEnd, mayEndBy, siteOf, start}
 use Rattle.reader.specs.Whole.{Read, andGo, scanned, scanOf}
-use Rattle.table.specs.Spelling.{Spells, KeepsLimits, Outlines}
+use Rattle.table.specs.Syntax.{Table}
+use Rattle.table.specs.Spelling.{spelled, KeepsLimits, Outlines}
 use Rattle.table.proofs.Tracked.{BetweenNodes, TrackedBy, Tracked}
 use Rattle.table.proofs.Steps.{step-head, step-node, step-variable, step-literal, step-operand, step-give}
 use Rattle.table.proofs.Heads.{step-equation}
@@ -34,8 +35,16 @@ step-by Due-literal own s t ws w h i e = step-literal own s t ws w h i e
 step-by (Operands more gives) own s t ws w h i e = step-operand own s t ws w more gives h i e
 step-by (Gives more) own s t ws w h i e = step-give own s t ws w more i e
 
+-- some table that the words spell
+pub record SpellsSome (own : ℕ) (ws : List ℕ) (o : Outline) : Type 0 where
+  pub table : Table
+  pub words : ws ≡ spelled own table
+  pub short : length ws ≤ 16384
+  pub keeps : KeepsLimits table
+  pub outlines : Outlines table o
+
 -- at the end
-ended : (E : Expect) (own v : ℕ) (o : Outline) (ws : List ℕ) → mayEndBy E (o .nodes) ≡ true → TrackedBy E own v o ws → length ws ≤ 16384 → Spells own ws o
+ended : (E : Expect) (own v : ℕ) (o : Outline) (ws : List ℕ) → mayEndBy E (o .nodes) ≡ true → TrackedBy E own v o ws → length ws ≤ 16384 → SpellsSome own ws o
 ended Due-head own v o ws e i h = absurd (let z : _≡_ {A = ℕ} 0 1 = cc in omega arith)
 ended Due-node own v o ws e i h = record {
   table = i .table;
@@ -54,9 +63,9 @@ refusal : {X Y : Type 0} (f : Y) (x : X) → _≡_ {A = Result X Y} (Err f) (Ok 
 refusal f x e = let z : _≡_ {A = ℕ} 0 1 = cc in omega arith
 
 ended-by : (own : ℕ) (s : Scan) (ws : List ℕ) (o : Outline) (b : Bool) → mayEnd s ≡ b → Tracked own s ws → length ws ≤ 16384
-    → cond b (Ok (s .outline)) (Err (Kind (siteOf s (length ws)))) ≡ Ok o → Spells own ws o
+    → cond b (Ok (s .outline)) (Err (Kind (siteOf s (length ws)))) ≡ Ok o → SpellsSome own ws o
 ended-by own s ws o true m i h e =
-    let F : Outline → Type 0 = Spells own ws in
+    let F : Outline → Type 0 = SpellsSome own ws in
     let same : s .outline ≡ o = cc in
     subst F same (ended (s .expect) own (s .variables) (s .outline) ws m i h)
 ended-by own s ws o false m i h e = absurd (refusal (Kind (siteOf s (length ws))) o e)
@@ -64,13 +73,13 @@ ended-by own s ws o false m i h e = absurd (refusal (Kind (siteOf s (length ws))
 -- the words that are left, and that they go on to spell a table
 abbrev Rest : ℕ → List ℕ → Outline → Type 0
 Rest own rest o = (s : Scan) (ws : List ℕ) → Tracked own s ws → length (ws ++ rest) ≤ 16384
-    → scanned own (length ws) s rest ≡ Ok o → Spells own (ws ++ rest) o
+    → scanned own (length ws) s rest ≡ Ok o → SpellsSome own (ws ++ rest) o
 
 fed-by : (own : ℕ) (s : Scan) (ws : List ℕ) (w : ℕ) (rest : List ℕ) (o : Outline) (r : Fed) → Rest own rest o → feedOf own s (length ws) w ≡ r → w < 2 ^ 32
-    → Tracked own s ws → length (ws ++ w ∷ rest) ≤ 16384 → andGo (λ t. scanned own (length ws + 1) t rest) r ≡ Ok o → Spells own (ws ++ w ∷ rest) o
+    → Tracked own s ws → length (ws ++ w ∷ rest) ≤ 16384 → andGo (λ t. scanned own (length ws + 1) t rest) r ≡ Ok o → SpellsSome own (ws ++ w ∷ rest) o
 fed-by own s ws w rest o (Ok t) go f b i h e =
     let n : (ws ++ w ∷ []) ++ rest ≡ ws ++ w ∷ rest = append-assoc ws (w ∷ []) rest in
-    let F : List ℕ → Type 0 = λ l. Spells own l o in
+    let F : List ℕ → Type 0 = λ l. SpellsSome own l o in
     let j = step-by (s .expect) own s t ws w b i f in
     let g = ap (λ k. scanned own k t rest) (length-push ws w) ∙ e in
     subst F n (go t (ws ++ w ∷ []) j (omega (arith, ap length n, h)) g)
@@ -79,14 +88,14 @@ fed-by own s ws w rest o (Err x) go f b i h e = absurd (refusal x o e)
 rest-sound : (own : ℕ) (rest : List ℕ) (o : Outline) → All (λ w. w < 2 ^ 32) rest → Rest own rest o
 rest-sound own [] o a s ws i h e =
     let n = append-nil ws in
-    let F : List ℕ → Type 0 = λ l. Spells own l o in
+    let F : List ℕ → Type 0 = λ l. SpellsSome own l o in
     subst F (sym n) (ended-by own s ws o (mayEnd s) refl i (omega (arith, ap length n, h)) e)
 rest-sound own (w ∷ rest) o a s ws i h e =
     fed-by own s ws w rest o (feedOf own s (length ws) w) (rest-sound own rest o (a .1)) refl (a .0) i h e
 
 -- What is read is spelled.
 length-by : (own : ℕ) (ws : List ℕ) (o : Outline) (b : Bool) → (eqb (length ws) 0 || ltb 16384 (length ws)) ≡ b → All (λ w. w < 2 ^ 32) ws
-    → cond b (Err Length) (scanned own 0 start ws) ≡ Ok o → length ws ≤ 16384 → Spells own ws o
+    → cond b (Err Length) (scanned own 0 start ws) ≡ Ok o → length ws ≤ 16384 → SpellsSome own ws o
 length-by own ws o true t a e h = absurd (refusal Length o e)
 length-by own ws o false t a e h = rest-sound own ws o a start [] (refl, refl) h e
 
@@ -98,7 +107,7 @@ short-by : (own : ℕ) (ws : List ℕ) (o : Outline) (b : Bool) → (eqb (length
 short-by own ws o true t e = absurd (refusal Length o e)
 short-by own ws o false t e = ltb-false 16384 (length ws) (not-or (eqb (length ws) 0) (ltb 16384 (length ws)) t)
 
-pub sound : (own : ℕ) (ws : List ℕ) (o : Outline) → All (λ w. w < 2 ^ 32) ws → scanOf own ws ≡ Ok o → Spells own ws o
+pub sound : (own : ℕ) (ws : List ℕ) (o : Outline) → All (λ w. w < 2 ^ 32) ws → scanOf own ws ≡ Ok o → SpellsSome own ws o
 sound own ws o a e =
     let b = eqb (length ws) 0 || ltb 16384 (length ws) in
     length-by own ws o b refl a e (short-by own ws o b refl e)

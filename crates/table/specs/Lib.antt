@@ -1,2 +1,4 @@
 pub mod Syntax
 pub mod Spelling
+pub mod Decoding
+pub mod Reading

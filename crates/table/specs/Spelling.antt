@@ -6,10 +6,8 @@ use mathlib.Core.List.{List, [], _∷_, _++_, map}
 use lib.Dec.{ltb}
 use lib.ListN.{length, getD, take}
 use Rattle.std.specs.shelf.Lists.{All}
-use Rattle.std.specs.Results.{Cases}
 use Rattle.std.specs.declared.option.Option.{Option}
 use Rattle.std.specs.declared.option.Option.the-variants.{Some, None}
-use Rattle.std.specs.declared.result.Result.{Result}
 use Rattle.words.specs.declared.kinds.Clock.{Clock}
 use Rattle.words.specs.declared.kinds.Clock.the-variants.{Base, On}
 use Rattle.words.specs.declared.kinds.Literal.{Literal}
@@ -21,7 +19,6 @@ use Rattle.words.specs.declared.kinds.Word.{Word}
 use Rattle.words.specs.declared.kinds.Word.the-variants.{Head, Node as Open, Variable as Declare, Operate, Sample, Merge, Choose, Delay, Call, Operand as With, Give, End}
 use Rattle.words.specs.Format.{encoded}
 use Rattle.reader.specs.declared.outline.Outline.{Outline}
-use Rattle.reader.specs.declared.faults.ReadFault.{ReadFault}
 use Rattle.table.specs.Syntax.{Equation, operate, sample, merge, choose, delay, call, Node, Table, nodeAt, variableCount}
 
 abbrev pub optional : Option Operand → List Word
@@ -124,17 +121,3 @@ pub record OutlinesNode (earlier : Table) (N : Node) (k : ℕ) (o : Outline) : T
 pub record Outlines (T : Table) (o : Outline) : Type 0 where
   pub nodes : o .nodes ≡ length T
   pub each : (k : ℕ) → k < length T → OutlinesNode (take k T) (nodeAt T k) k o
-
--- words spell a table within the limits, which the outline describes; or they spell none
-pub record Spells (own : ℕ) (ws : List ℕ) (o : Outline) : Type 0 where
-  pub table : Table
-  pub words : ws ≡ spelled own table
-  pub keeps : KeepsLimits table
-  pub outlines : Outlines table o
-  pub short : length ws ≤ 16384
-
-abbrev pub SpellsNone : ℕ → List ℕ → Type 0
-SpellsNone own ws = (T : Table) → KeepsLimits T → length ws ≤ 16384 → ws ≡ spelled own T → ⊥
-
-abbrev pub Reads : ℕ → List ℕ → Result Outline ReadFault → Type 0
-Reads own ws r = Cases r (Spells own ws) (λ f. SpellsNone own ws)

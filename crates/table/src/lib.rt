@@ -1,7 +1,7 @@
 // Tables: what they are made of, and reading one from its words.
 ghost use mathlib.Core.Path.{_≡_};
 ghost use Rattle.reader.specs.Whole.{scanOf};
-ghost use Rattle.table.specs.Spelling.{Reads};
+ghost use Rattle.table.specs.Reading.{Reads};
 use opset::OperatorSet;
 use reader::Outline;
 use reader::ReadFault;

@@ -3,7 +3,7 @@ use mathlib.Core.Path.{_≡_, sym, ap, _∙_, subst}
 use lib.ListN.{getD}
 use native.Mathlib.Omega.{arith}
 use Rattle.reader.specs.Whole.{Read, scanOf}
-use Rattle.table.specs.Spelling.{Reads}
+use Rattle.table.specs.Reading.{Reads}
 use Rattle.table.proofs.Whole.{reads-stand}
 use Rattle.table.proofs.read.Needs as need
 
