@@ -6,6 +6,7 @@ use mathlib.Core.List.{List}
 use lib.ListN.{length, take, getD}
 use Rattle.opset.specs.Meaning.{Meaning}
 use Rattle.table.specs.Syntax.{Node, Table, nodeAt, variableCount}
+pub use Rattle.table.specs.Syntax.{equationCount}
 use Rattle.table.specs.Spelling.{KeepsLimits}
 use Rattle.rules.specs.Types.{variableTyped, equationTyped}
 use Rattle.rules.specs.Clocks.{variableClocked, equationClocked}
@@ -13,9 +14,6 @@ use Rattle.rules.specs.Definitions.{variableDefined}
 use Rattle.schedule.specs.Reads.{equationAt, before}
 use Rattle.schedule.specs.Order.{Order}
 use Rattle.schedule.specs.Need.{needs}
-
-abbrev pub equationCount : Node → ℕ
-equationCount N = length (N .equations)
 
 -- node N, behind the earlier nodes, computing with the values of a set that means m
 pub record KeepsNode {V : Type 0} (m : Meaning V) (earlier : Table) (N : Node) : Type 0 where

@@ -3,7 +3,6 @@ use Prim.Native.Nat.{ℕ, _+_}
 use mathlib.Core.Bool.{Bool, true, false, _&&_}
 use mathlib.Core.List.{List, [], _∷_}
 use lib.Dec.{eqb}
-use lib.ListN.{getD}
 use Rattle.std.specs.Options.{isSome, mapped}
 use Rattle.std.specs.declared.option.Option.{Option}
 use Rattle.std.specs.declared.option.Option.the-variants.{Some, None}
@@ -13,12 +12,8 @@ use Rattle.words.specs.declared.kinds.Clock.the-variants.{Base, On}
 use Rattle.words.specs.declared.kinds.Literal.{Literal}
 use Rattle.words.specs.declared.kinds.Operand.{Operand}
 use Rattle.words.specs.declared.kinds.Operand.the-variants.{Take, Literal as Constant}
-use Rattle.words.specs.declared.kinds.Variable.{Variable}
 use Rattle.table.specs.Syntax.{Equation, operate, sample, merge, choose, delay, call, Node, Table, nodeAt}
-
--- a variable of a node; past the last, as the reader never lets one be named, a boolean on the base
-abbrev pub variableAt : Node → ℕ → Variable
-variableAt N x = getD (N .variables) x (record { ty = 0; clock = Base })
+pub use Rattle.table.specs.Syntax.{variableAt}
 
 abbrev pub typeOf : Node → ℕ → ℕ
 typeOf N x = variableAt N x .ty

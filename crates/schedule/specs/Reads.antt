@@ -11,6 +11,7 @@ use Rattle.words.specs.declared.kinds.Clock.the-variants.{Base, On}
 use Rattle.words.specs.declared.kinds.Operand.{Operand}
 use Rattle.words.specs.declared.kinds.Operand.the-variants.{Take, Literal as Constant}
 use Rattle.table.specs.Syntax.{Equation, operate, sample, merge, choose, delay, call, Node}
+pub use Rattle.table.specs.Syntax.{anEquation, equationAt}
 use Rattle.rules.specs.Clocks.{clockOf}
 use Rattle.rules.specs.Definitions.{defined, isDelay, isIn}
 
@@ -60,12 +61,6 @@ meets (x ∷ xs) ys = isIn x ys || meets xs ys
 -- e defines what f reads
 abbrev pub feeds : Node → Equation → Equation → Bool
 feeds N e f = meets (defined e) (reads N f)
-
-abbrev pub anEquation : Equation
-anEquation = sample (Take 0) 0
-
-abbrev pub equationAt : Node → ℕ → Equation
-equationAt N i = getD (N .equations) i anEquation
 
 -- Equation i comes before equation j: it defines what j reads and is no DELAY; or j is a DELAY whose variable it reads, another than itself.
 abbrev pub before : Node → ℕ → ℕ → Bool

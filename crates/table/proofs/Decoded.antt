@@ -37,18 +37,18 @@ clock-fits : (v : ℕ) (c : Clock) → v ≤ 64 → ClockKeeps v c → ClockFits
 clock-fits v Base h k = tt
 clock-fits v (On x sense) h k = omega arith
 
-restart-fits : (v : ℕ) (r : Option ℕ) → v ≤ 64 → RestartKeeps v r → RestartFits r
+pub restart-fits : (v : ℕ) (r : Option ℕ) → v ≤ 64 → RestartKeeps v r → RestartFits r
 restart-fits v None h k = tt
 restart-fits v (Some r) h k = omega arith
 
-operand-fits : (v : ℕ) → v ≤ 64 → (a : Operand) → OperandKeeps v a → WordFits (With a)
+pub operand-fits : (v : ℕ) → v ≤ 64 → (a : Operand) → OperandKeeps v a → WordFits (With a)
 operand-fits v h (Take x) k = omega arith
 operand-fits v h (Constant l) k = (k .ty, k .payload)
 
-give-fits : (v : ℕ) → v ≤ 64 → (x : ℕ) → x < v → WordFits (Give x)
+pub give-fits : (v : ℕ) → v ≤ 64 → (x : ℕ) → x < v → WordFits (Give x)
 give-fits v h x k = omega arith
 
-variable-fits : (v : ℕ) → v ≤ 64 → (x : Variable) → VariableKeeps v x → WordFits (Declare x)
+pub variable-fits : (v : ℕ) → v ≤ 64 → (x : Variable) → VariableKeeps v x → WordFits (Declare x)
 variable-fits v h x k = (k .ty, clock-fits v (x .clock) h (k .clock))
 
 module _ (P : Table) (v : ℕ) (h : v ≤ 64) (l : length P ≤ 32) where

@@ -9,3 +9,5 @@ pub mod Heads
 pub mod Sound
 pub mod Decoded
 pub mod Whole
+pub mod Places
+pub mod Accessed

@@ -3,9 +3,10 @@ use Prim.Native.Nat.{ℕ, _+_}
 use mathlib.Core.List.{List, []}
 use lib.ListN.{length, getD}
 use Rattle.std.specs.declared.option.Option.{Option}
-use Rattle.words.specs.declared.kinds.Clock.{Clock}
+use Rattle.words.specs.declared.kinds.Clock.the-variants.{Base}
 use Rattle.words.specs.declared.kinds.Literal.{Literal}
 use Rattle.words.specs.declared.kinds.Operand.{Operand}
+use Rattle.words.specs.declared.kinds.Operand.the-variants.{Take}
 use Rattle.words.specs.declared.kinds.Variable.{Variable}
 
 -- An equation ends with the variable that it defines; a call with those that take the called node's outputs.
@@ -40,3 +41,16 @@ nodeAt T k = getD T k none
 
 abbrev pub variableCount : Node → ℕ
 variableCount N = length (N .variables)
+
+-- a variable of a node; past the last, as no table within the limits names one, a boolean on the base
+abbrev pub variableAt : Node → ℕ → Variable
+variableAt N x = getD (N .variables) x (record { ty = 0; clock = Base })
+
+abbrev pub anEquation : Equation
+anEquation = sample (Take 0) 0
+
+abbrev pub equationAt : Node → ℕ → Equation
+equationAt N e = getD (N .equations) e anEquation
+
+abbrev pub equationCount : Node → ℕ
+equationCount N = length (N .equations)

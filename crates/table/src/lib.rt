@@ -2,6 +2,14 @@
 ghost use mathlib.Core.Path.{_≡_};
 ghost use Rattle.reader.specs.Whole.{scanOf};
 ghost use Rattle.table.specs.Reading.{Reads};
+mod access;
+mod drawn;
+
+pub use access::equation;
+pub use access::variable;
+pub use access::variable_count;
+pub use access::word_at;
+pub use drawn::Drawn;
 use opset::OperatorSet;
 use reader::Outline;
 use reader::ReadFault;

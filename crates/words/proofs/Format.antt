@@ -111,12 +111,12 @@ reads (Operate-on a) f = reads-operand a f
 reads (Give x) f = let l = low 11 x f in rw (l .0, l .1)
 reads End f = refl
 
-small-clock : (c : Clock) → ClockFits c → clockBits c < 2 ^ 8
+pub small-clock : (c : Clock) → ClockFits c → clockBits c < 2 ^ 8
 small-clock Base f = omega arith
 small-clock (On x true) f = omega arith
 small-clock (On x false) f = omega arith
 
-small-restart : (r : Option ℕ) → RestartFits r → restartBits r < 2 ^ 16
+pub small-restart : (r : Option ℕ) → RestartFits r → restartBits r < 2 ^ 16
 small-restart None f = omega arith
 small-restart (Some r) f = omega arith
 

@@ -63,6 +63,9 @@ restartIn w = cond (isSet w 15) (Some (field w 8 6)) None
 abbrev pub literalIn : ℕ → Literal
 literalIn w = record { ty = field w 24 4; payload = field w 0 24 }
 
+abbrev pub operandIn : ℕ → Operand
+operandIn w = cond (eqb (kindOf w) 10) (Constant (literalIn w)) (Take (field w 0 6))
+
 -- by its kind
 abbrev pub decodedAs : ℕ → ℕ → Option Word
 decodedAs k w =

@@ -1,7 +1,7 @@
 // From a word's bits to what it says.
 ghost use mathlib.Core.Path.{_≡_};
-ghost use Rattle.words.specs.Bits.{kindOf};
-ghost use Rattle.words.specs.Format.{clockIn, decoded, portsIn, restartIn, WordFits};
+ghost use Rattle.words.specs.Bits.{field, kindOf};
+ghost use Rattle.words.specs.Format.{clockIn, decoded, literalIn, operandIn, portsIn, restartIn, variableIn, WordFits};
 ghost use Rattle.std.specs.Slices.{found};
 use crate::kinds::Clock;
 use crate::kinds::Literal;
@@ -50,22 +50,46 @@ pub fn restart_in(w: u32) -> Option<u8>
     }
 }
 
+/// The operand in a LITERAL, or in a TAKE.
+pub fn operand_in(w: u32) -> Operand
+    ensures { λ r. ⌜ r ≡ operandIn w ⌝ }
+{
+    if kind(w) == 10 { Operand::Literal(literal_in(w)) } else { Operand::Take(variable_number(w)) }
+}
+
+/// The literal in a LITERAL.
+pub fn literal_in(w: u32) -> Literal
+    ensures { λ r. ⌜ r ≡ literalIn w ⌝ }
+{
+    Literal { ty: ((w >> 24) % 0x10) as u8, payload: w % 0x100_0000 }
+}
+
+/// The variable that an equation's head, a TAKE or a GIVE names.
+pub fn variable_number(w: u32) -> u8
+    ensures { λ r. ⌜ r ≡ field w 0 6 ⌝ }
+{
+    (w % 0x40) as u8
+}
+
+/// The variable in a VARIABLE: its type and its clock.
+pub fn variable_in(w: u32) -> Variable
+    ensures { λ r. ⌜ r ≡ variableIn w ⌝ }
+{
+    Variable { ty: ((w >> 24) % 0x10) as u8, clock: clock_in(w) }
+}
+
 /// What a word says by its kind and fields, whatever its spare bits are; none for the kinds that no table has.
 pub fn decode(w: u32) -> Option<Word>
     ensures value { λ r. ⌜ r ≡ decoded w ⌝ }
     ensures fits { λ r. ⌜ found r WordFits ⌝ }
 {
-    let low = (w % 0x40) as u8;
+    let low = variable_number(w);
     let middle = ((w >> 8) % 0x40) as u8;
     let high = ((w >> 20) % 0x100) as u8;
-    let ty = ((w >> 24) % 0x10) as u8;
     let word = match w >> 28 {
         0 => Word::Head((w % 0x100) as u8),
         1 => Word::Node(ports_in(w)),
-        2 => Word::Variable(Variable {
-            ty,
-            clock: clock_in(w),
-        }),
+        2 => Word::Variable(variable_in(w)),
         3 => Word::Operate(high, low),
         4 => Word::Sample(low),
         5 => Word::Merge(middle, low),
@@ -73,10 +97,7 @@ pub fn decode(w: u32) -> Option<Word>
         7 => Word::Delay(low),
         8 => Word::Call(high, restart_in(w)),
         9 => Word::Operand(Operand::Take(low)),
-        10 => Word::Operand(Operand::Literal(Literal {
-            ty,
-            payload: w % 0x100_0000,
-        })),
+        10 => Word::Operand(Operand::Literal(literal_in(w))),
         11 => Word::Give(low),
         12 => Word::End,
         _ => return None,
