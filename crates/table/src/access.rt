@@ -4,9 +4,15 @@ ghost use Prim.Native.Nat.{_<_};
 ghost use lib.ListN.{getD, length};
 ghost use Rattle.table.specs.Access.{Described, Draws, drawnAt, drawnOperate};
 ghost use Rattle.table.specs.Decoding.{tableOf};
+ghost use Rattle.table.specs.Spelling.{portsOf};
+ghost use Rattle.words.specs.Bits.{field};
+ghost use Rattle.words.specs.Format.{operandIn};
 ghost use Rattle.table.specs.Syntax.{equationAt, equationCount, nodeAt, variableAt, variableCount};
 use crate::drawn::Drawn;
 use reader::Outline;
+use words::Clock;
+use words::Operand;
+use words::Ports;
 use words::Variable;
 use words::kind;
 use words::literal_in;
@@ -23,24 +29,82 @@ pub fn word_at(words: &[u32], at: usize) -> u32
     if at < words.len() { words[at] } else { 0 }
 }
 
-/// How many variables node `k` has.
-pub fn variable_count(words: &[u32], outline: &Outline, k: usize) -> usize
+/// The operand that stands at a place.
+pub fn operand_at(words: &[u32], at: usize) -> Operand
+    ensures { λ r. ⌜ r ≡ operandIn (getD (now (words .entry)) at 0) ⌝ }
+{
+    operand_in(word_at(words, at))
+}
+
+/// The variable of the GIVE that stands at a place.
+pub fn give_at(words: &[u32], at: usize) -> u8
+    ensures { λ r. ⌜ r ≡ field (getD (now (words .entry)) at 0) 0 6 ⌝ }
+{
+    variable_number(word_at(words, at))
+}
+
+/// How many inputs node `k` has, and 0 past the last node.
+pub fn input_count(words: &[u32], outline: &Outline, k: usize) -> usize
+    requires { ⌜ Described (now words) (now outline) ⌝ }
+    ensures { λ r. ⌜ r ≡ nodeAt (tableOf (now (words .entry))) k .inputs ⌝ }
+{
+    if k < outline.nodes as usize { outline.inputs[k] as usize } else { 0 }
+}
+
+/// How many outputs node `k` has, and 0 past the last node.
+pub fn output_count(words: &[u32], outline: &Outline, k: usize) -> usize
+    requires { ⌜ Described (now words) (now outline) ⌝ }
+    ensures { λ r. ⌜ r ≡ nodeAt (tableOf (now (words .entry))) k .outputs ⌝ }
+{
+    if k < outline.nodes as usize { outline.outputs[k] as usize } else { 0 }
+}
+
+/// How many equations node `k` has, and 0 past the last node.
+pub fn equation_count(words: &[u32], outline: &Outline, k: usize) -> usize
+    requires { ⌜ Described (now words) (now outline) ⌝ }
+    ensures { λ r. ⌜ r ≡ equationCount (nodeAt (tableOf (now (words .entry))) k) ⌝ }
+{
+    if k < outline.nodes as usize { outline.equations[k] as usize } else { 0 }
+}
+
+fn node_ports(words: &[u32], outline: &Outline, k: usize) -> Ports
     requires described { ⌜ Described (now words) (now outline) ⌝ }
     requires node { ⌜ k < length (tableOf (now words)) ⌝ }
+    ensures { λ r. ⌜ r ≡ portsOf (nodeAt (tableOf (now (words .entry))) k) ⌝ }
+{
+    ports_in(word_at(words, outline.starts[k] as usize))
+}
+
+/// How many variables node `k` has, and 0 past the last node.
+pub fn variable_count(words: &[u32], outline: &Outline, k: usize) -> usize
+    requires { ⌜ Described (now words) (now outline) ⌝ }
     ensures { λ r. ⌜ r ≡ variableCount (nodeAt (tableOf (now (words .entry))) k) ⌝ }
 {
-    let ports = ports_in(word_at(words, outline.starts[k] as usize));
+    if k >= outline.nodes as usize {
+        return 0;
+    }
+    let ports = node_ports(words, outline, k);
     ports.inputs as usize + ports.outputs as usize + ports.locals as usize
 }
 
-/// Variable `x` of node `k`.
-pub fn variable(words: &[u32], outline: &Outline, k: usize, x: usize) -> Variable
+fn variable_within(words: &[u32], outline: &Outline, k: usize, x: usize) -> Variable
     requires described { ⌜ Described (now words) (now outline) ⌝ }
     requires node { ⌜ k < length (tableOf (now words)) ⌝ }
     requires within { ⌜ x < variableCount (nodeAt (tableOf (now words)) k) ⌝ }
     ensures { λ r. ⌜ r ≡ variableAt (nodeAt (tableOf (now (words .entry))) k) x ⌝ }
 {
     variable_in(word_at(words, outline.starts[k] as usize + 1 + x))
+}
+
+/// Variable `x` of node `k`; past the last, a boolean on the base.
+pub fn variable(words: &[u32], outline: &Outline, k: usize, x: usize) -> Variable
+    requires { ⌜ Described (now words) (now outline) ⌝ }
+    ensures { λ r. ⌜ r ≡ variableAt (nodeAt (tableOf (now (words .entry))) k) x ⌝ }
+{
+    if x >= variable_count(words, outline, k) {
+        return Variable { ty: 0, clock: Clock::Base };
+    }
+    variable_within(words, outline, k, x)
 }
 
 fn operate(w: u32, first: u32, second: u32) -> Drawn
@@ -74,7 +138,7 @@ pub fn equation(words: &[u32], outline: &Outline, k: usize, e: usize) -> Drawn
     requires described { ⌜ Described (now words) (now outline) ⌝ }
     requires node { ⌜ k < length (tableOf (now words)) ⌝ }
     requires within { ⌜ e < equationCount (nodeAt (tableOf (now words)) k) ⌝ }
-    ensures { λ r. ⌜ Draws (now (words .entry)) r (equationAt (nodeAt (tableOf (now (words .entry))) k) e) ⌝ }
+    ensures { λ r. ⌜ Draws (now (words .entry)) (tableOf (now (words .entry))) k r (equationAt (nodeAt (tableOf (now (words .entry))) k) e) ⌝ }
 {
     drawn_at(words, outline.heads[64 * k + e])
 }

@@ -6,6 +6,11 @@ mod access;
 mod drawn;
 
 pub use access::equation;
+pub use access::equation_count;
+pub use access::give_at;
+pub use access::input_count;
+pub use access::operand_at;
+pub use access::output_count;
 pub use access::variable;
 pub use access::variable_count;
 pub use access::word_at;

@@ -9,6 +9,6 @@ use Rattle.table.proofs.access.equation.Needs as need
 pub returns : need.returns
 returns c =
     let ws = c .args .words .now in
-    let F : Drawn → Type 0 = λ D. Draws ws D (equationAt (nodeAt (tableOf ws) (c .args .k)) (c .args .e)) in
+    let F : Drawn → Type 0 = λ D. Draws ws (tableOf ws) (c .args .k) D (equationAt (nodeAt (tableOf ws) (c .args .k)) (c .args .e)) in
     subst F (sym (c .drawn-at .ensures))
     (equation-stands ws (c .args .outline .now) (c .pre .described) (c .args .k) (c .pre .node) (c .args .e) (c .pre .within))
