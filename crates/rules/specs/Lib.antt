@@ -1,3 +1,5 @@
 pub mod Types
 pub mod Clocks
 pub mod Definitions
+pub mod First
+pub mod Offences
