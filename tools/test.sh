@@ -10,4 +10,7 @@ trap 'rm -f "$log"' EXIT
 rt ci 2>&1 | tee "$log"
 verdict=$(tail -n 1 "$log")
 
+tools/commands.sh
+bench/run.sh compare
+
 printf '%s\n' "$verdict"

@@ -148,20 +148,21 @@ module _ (ws : List ℕ) (p : ℕ) where
         let bs = map Give gs in
         let la = length-map ops With in
         let lb = length-map gs Give in
-        let lt = length-append tks bs in
-        (operands-at ws ops (p + 1) (λ i m.
-            let e : p + 1 + i ≡ p + suc i = omega arith in
-            let a = getD ops i (Take 0) in
-            ap operandIn (ap (λ j. getD ws j 0) e ∙ s (suc i) (omega (arith, la, lt, m))
+        let lt = length-append tks bs in (
+          operands-at ws ops (p + 1) (λ i m.
+              let e : p + 1 + i ≡ p + suc i = omega arith in
+              let a = getD ops i (Take 0) in
+              ap operandIn (ap (λ j. getD ws j 0) e ∙ s (suc i) (omega (arith, la, lt, m))
               ∙ ap encoded (getD-append-left tks bs End i (omega (arith, la, m)) ∙ getD-map With ops i (Take 0) End m))
-            ∙ operand-back a (operand-fits v h a (all-at (OperandKeeps v) ops i (Take 0) (k .2) m))),
+              ∙ operand-back a (operand-fits v h a (all-at (OperandKeeps v) ops i (Take 0) (k .2) m))),
           gives-at ws gs (p + 1 + length ops) (λ i m.
-            let e : p + 1 + length ops + i ≡ p + suc (length tks + i) = omega (arith, la) in
-            let x = getD gs i 0 in
-            let small : x < v = all-at (λ y. y < v) gs i 0 (k .3) m in
-            ap (λ w. field w 0 6) (ap (λ j. getD ws j 0) e ∙ s (suc (length tks + i)) (omega (arith, lb, lt, m))
+              let e : p + 1 + length ops + i ≡ p + suc (length tks + i) = omega (arith, la) in
+              let x = getD gs i 0 in
+              let small : x < v = all-at (λ y. y < v) gs i 0 (k .3) m in
+              ap (λ w. field w 0 6) (ap (λ j. getD ws j 0) e ∙ s (suc (length tks + i)) (omega (arith, lb, lt, m))
               ∙ ap encoded (getD-append-add tks bs i End ∙ getD-map Give gs i 0 End m))
-            ∙ omega (arith, small)))
+              ∙ omega (arith, small)),
+        )
 
     call-draws : (T : Table) (n : ℕ) (g : ℕ) (r : Option ℕ) (ops : List Operand) (gs : List ℕ) → P ≡ take n T → n ≤ length T
         → EquationKeeps P v (call g r ops gs) → Stand (equationWords (call g r ops gs)) → Draws ws T n (drawn.Call g r (p + 1)) (call g r ops gs)
@@ -170,9 +171,11 @@ module _ (ws : List ℕ) (p : ℕ) where
         let lt : g < n = omega (arith, k .0, ap length e, length-take-le n T m) in
         let N-is : nodeAt P g ≡ nodeAt T g = ap (λ Q. nodeAt Q g) e ∙ getD-take n T g none lt in
         let i-is = k .4 ∙ ap (λ N. N .inputs) N-is in
-        let o-is = k .5 ∙ ap (λ N. N .outputs) N-is in
-        (lt, ap (λ l. call g r l gs) (ls .0 ∙ ap (operandsAt ws (p + 1)) i-is)
-          ∙ ap (λ l. call g r (operandsAt ws (p + 1) (nodeAt T g .inputs)) l) (ls .1 ∙ ap (λ q. givesAt ws (p + 1 + q) (length gs)) i-is ∙ ap (givesAt ws (p + 1 + nodeAt T g .inputs)) o-is))
+        let o-is = k .5 ∙ ap (λ N. N .outputs) N-is in (
+          lt,
+          ap (λ l. call g r l gs) (ls .0 ∙ ap (operandsAt ws (p + 1)) i-is)
+              ∙ ap (λ l. call g r (operandsAt ws (p + 1) (nodeAt T g .inputs)) l) (ls .1 ∙ ap (λ q. givesAt ws (p + 1 + q) (length gs)) i-is ∙ ap (givesAt ws (p + 1 + nodeAt T g .inputs)) o-is),
+        )
 
     operate-draws : (op x : ℕ) (a : Operand) (b : Option Operand) → EquationKeeps P v (operate op a b x) → Stand (equationWords (operate op a b x)) → drawnAt ws p ≡ drawn.Operate op a b x
     operate-draws op x a None k s = drawn-one op x a k s
@@ -235,4 +238,4 @@ module _ (ws : List ℕ) (o : Outline) (d : Described ws o) (k : ℕ) (h : k < l
       let few : length (take k T) ≤ 32 = omega (arith, length-take-le k T (omega arith), d .spells .keeps .count .1) in
       let F : ℕ → Type 0 = λ q. Draws ws T k (drawnAt ws q) E in
       subst F (sym at) (draws ws p (take k T) (variableCount N) (K .count .1) few T k refl (omega arith) E
-        (all-at (EquationKeeps (take k T) (variableCount N)) (N .equations) e _ (K .equations) l) (λ i m. word-is (equationWords E) p i t m))
+      (all-at (EquationKeeps (take k T) (variableCount N)) (N .equations) e _ (K .equations) l) (λ i m. word-is (equationWords E) p i t m))

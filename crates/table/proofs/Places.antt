@@ -109,7 +109,8 @@ node-part own T k h front part back e m n p =
       behind = back ++ rest;
       is = ap (λ l. Head own ∷ l) (nodes-split T k h) ∙ ap (λ l. Head own ∷ (P ++ (l ++ rest))) e ∙ simp append-assoc;
       place = omega (arith, length-append (Head own ∷ P) front, p);
-      more = omega (arith, length-append back rest, m) }
+      more = omega (arith, length-append back rest, m);
+    }
 
 pub parted-word : (xs part : List Word) (n i : ℕ) → Parted xs part n → i < length part → getD (map encoded xs) (n + i) 0 ≡ encoded (getD part i End)
 parted-word xs part n i t h =

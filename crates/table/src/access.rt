@@ -48,7 +48,11 @@ pub fn input_count(words: &[u32], outline: &Outline, k: usize) -> usize
     requires { ⌜ Described (now words) (now outline) ⌝ }
     ensures { λ r. ⌜ r ≡ nodeAt (tableOf (now (words .entry))) k .inputs ⌝ }
 {
-    if k < outline.nodes as usize { outline.inputs[k] as usize } else { 0 }
+    if k < outline.nodes as usize {
+        outline.inputs[k] as usize
+    } else {
+        0
+    }
 }
 
 /// How many outputs node `k` has, and 0 past the last node.
@@ -56,7 +60,11 @@ pub fn output_count(words: &[u32], outline: &Outline, k: usize) -> usize
     requires { ⌜ Described (now words) (now outline) ⌝ }
     ensures { λ r. ⌜ r ≡ nodeAt (tableOf (now (words .entry))) k .outputs ⌝ }
 {
-    if k < outline.nodes as usize { outline.outputs[k] as usize } else { 0 }
+    if k < outline.nodes as usize {
+        outline.outputs[k] as usize
+    } else {
+        0
+    }
 }
 
 /// How many equations node `k` has, and 0 past the last node.
@@ -64,7 +72,11 @@ pub fn equation_count(words: &[u32], outline: &Outline, k: usize) -> usize
     requires { ⌜ Described (now words) (now outline) ⌝ }
     ensures { λ r. ⌜ r ≡ equationCount (nodeAt (tableOf (now (words .entry))) k) ⌝ }
 {
-    if k < outline.nodes as usize { outline.equations[k] as usize } else { 0 }
+    if k < outline.nodes as usize {
+        outline.equations[k] as usize
+    } else {
+        0
+    }
 }
 
 fn node_ports(words: &[u32], outline: &Outline, k: usize) -> Ports
@@ -102,7 +114,10 @@ pub fn variable(words: &[u32], outline: &Outline, k: usize, x: usize) -> Variabl
     ensures { λ r. ⌜ r ≡ variableAt (nodeAt (tableOf (now (words .entry))) k) x ⌝ }
 {
     if x >= variable_count(words, outline, k) {
-        return Variable { ty: 0, clock: Clock::Base };
+        return Variable {
+            ty: 0,
+            clock: Clock::Base,
+        };
     }
     variable_within(words, outline, k, x)
 }
@@ -111,7 +126,11 @@ fn operate(w: u32, first: u32, second: u32) -> Drawn
     ensures { λ r. ⌜ r ≡ drawnOperate w first second ⌝ }
 {
     let op = ((w >> 20) % 0x100) as u8;
-    let b = if op < 128 { None } else { Some(operand_in(second)) };
+    let b = if op < 128 {
+        None
+    } else {
+        Some(operand_in(second))
+    };
     Drawn::Operate(op, operand_in(first), b, variable_number(w))
 }
 

@@ -2,6 +2,7 @@
 ghost use mathlib.Core.Path.{_≡_};
 ghost use Rattle.reader.specs.Whole.{scanOf};
 ghost use Rattle.table.specs.Reading.{Reads};
+
 mod access;
 mod drawn;
 

@@ -54,14 +54,21 @@ pub fn restart_in(w: u32) -> Option<u8>
 pub fn operand_in(w: u32) -> Operand
     ensures { λ r. ⌜ r ≡ operandIn w ⌝ }
 {
-    if kind(w) == 10 { Operand::Literal(literal_in(w)) } else { Operand::Take(variable_number(w)) }
+    if kind(w) == 10 {
+        Operand::Literal(literal_in(w))
+    } else {
+        Operand::Take(variable_number(w))
+    }
 }
 
 /// The literal in a LITERAL.
 pub fn literal_in(w: u32) -> Literal
     ensures { λ r. ⌜ r ≡ literalIn w ⌝ }
 {
-    Literal { ty: ((w >> 24) % 0x10) as u8, payload: w % 0x100_0000 }
+    Literal {
+        ty: ((w >> 24) % 0x10) as u8,
+        payload: w % 0x100_0000,
+    }
 }
 
 /// The variable that an equation's head, a TAKE or a GIVE names.
@@ -75,7 +82,10 @@ pub fn variable_number(w: u32) -> u8
 pub fn variable_in(w: u32) -> Variable
     ensures { λ r. ⌜ r ≡ variableIn w ⌝ }
 {
-    Variable { ty: ((w >> 24) % 0x10) as u8, clock: clock_in(w) }
+    Variable {
+        ty: ((w >> 24) % 0x10) as u8,
+        clock: clock_in(w),
+    }
 }
 
 /// What a word says by its kind and fields, whatever its spare bits are; none for the kinds that no table has.

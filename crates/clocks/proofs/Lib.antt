@@ -1,0 +1,3 @@
+mod Samplers
+mod Suffixes
+mod Limits

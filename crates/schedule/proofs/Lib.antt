@@ -1,0 +1,9 @@
+pub mod First
+pub mod Membership
+pub mod Missing
+pub mod Meant
+pub mod Unique
+pub mod Same
+pub mod Marks
+pub mod Scan
+pub mod Placing

@@ -1,0 +1,3 @@
+// The order of equations at work, table by table. A crate of its own, since a crate with tests is proved twice.
+#[cfg(test)]
+mod order_tests;

@@ -1,0 +1,16 @@
+pub mod Places
+pub mod Uses
+pub mod Facts
+pub mod Rank
+pub mod Along
+pub mod Same
+pub mod Settled
+pub mod Present
+pub mod Steps
+pub mod Masks
+pub mod Exist
+pub mod Unique
+pub mod Growing
+pub mod Histories
+pub mod Orders
+pub mod Typed
