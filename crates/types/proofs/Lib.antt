@@ -1,0 +1,3 @@
+pub mod Called
+pub mod Failing
+pub mod Placed
