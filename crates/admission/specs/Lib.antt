@@ -1,1 +1,5 @@
 pub mod Keeps
+pub mod Faults
+pub mod Verdict
+pub mod Answers
+pub mod Admission

@@ -11,7 +11,7 @@ pub(crate) const MOST_EQUATIONS: usize = 64;
 /// For up to 64 equations, which come before which: mark `64 * i + j` says that equation `i` comes before equation `j`.
 #[derive(Drop)]
 pub struct Waits {
-    marks: [bool; 4096],
+    pub marks: [bool; 4096],
 }
 
 impl Waits {

@@ -57,7 +57,7 @@ fn chain_set(words: &[u32], outline: &Outline, k: usize, x: u8) -> VariableSet
 {
     let mut set = VariableSet::new();
     let mut last = x;
-    'samplers: for passed in 0..8u8 {
+    'samplers: for _passed in 0..8u8 {
         match variable(words, outline, k, last as usize).clock {
             Clock::Base => break,
             Clock::On(sampler, _) => {

@@ -24,7 +24,7 @@ insert-requires c κs =
 pub samplers-again : need.samplers-again
 samplers-again c =
     let N = nodeAt (tableOf (c .args .words .now)) (c .args .k) in
-    let i = c .samplers .passed in
+    let i = c .samplers .-passed in
     let s = c .in-On .sampler in
     let clock : clockOf N (c .samplers .last) ≡ On s (c .in-On .field-1) = sym (ap (λ v. v .clock) (c .variable .ensures)) ∙ c .in-On .is in
     let done = c .samplers .inv .0 in (
@@ -39,11 +39,11 @@ returns-in-Base c =
     let N = nodeAt (tableOf (c .args .words .now)) (c .args .k) in
     let clock : clockOf N (c .samplers .last) ≡ Base = sym (ap (λ v. v .clock) (c .variable .ensures)) ∙ c .in-Base .is in
     let done = c .samplers .inv .0 in
-    holds-as _ _ _ (sym (c .samplers .inv .2 ∙ ap (λ l. done ++ l) (chain-base (8 - c .samplers .passed) N (c .samplers .last) clock) ∙ append-nil done)) (c .samplers .inv .1)
+    holds-as _ _ _ (sym (c .samplers .inv .2 ∙ ap (λ l. done ++ l) (chain-base (8 - c .samplers .-passed) N (c .samplers .last) clock) ∙ append-nil done)) (c .samplers .inv .1)
 
 pub returns-after-samplers : need.returns-after-samplers
 returns-after-samplers c =
     let N = nodeAt (tableOf (c .args .words .now)) (c .args .k) in
-    let e : 8 - c .samplers .passed ≡ 0 = omega arith in
+    let e : 8 - c .samplers .-passed ≡ 0 = omega arith in
     let done = c .samplers .inv .0 in
     holds-as _ _ _ (sym (c .samplers .inv .2 ∙ ap (λ d. done ++ chainTo d N (c .samplers .last)) e ∙ append-nil done)) (c .samplers .inv .1)

@@ -11,5 +11,5 @@ use Rattle.waits.proofs.equation_variables.chain_set.Given as given
 abbrev pub Inv-samplers : given.InvT-samplers
 Inv-samplers l =
     (passed : List ℕ) × Holds (l .set) passed
-    × (chain (nodeAt (tableOf (l .words)) (l .k)) (l .x) ≡ passed ++ chainTo (8 - l .passed) (nodeAt (tableOf (l .words)) (l .k)) (l .last))
+    × (chain (nodeAt (tableOf (l .words)) (l .k)) (l .x) ≡ passed ++ chainTo (8 - l .-passed) (nodeAt (tableOf (l .words)) (l .k)) (l .last))
     × (l .last < 256)
