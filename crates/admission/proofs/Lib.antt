@@ -1,3 +1,4 @@
 pub mod Ordering
 pub mod Needed
 pub mod Progress
+pub mod Exactly

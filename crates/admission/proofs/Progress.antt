@@ -56,8 +56,8 @@ fault-at m T k zero f h a b = absurd (omega arith)
 fault-at m T k (suc n) f h a b =
     elim (split k n h) [ inl l ↦ ap (λ o. orElse o (nodeFault m T n)) (fault-at m T k n f l a b) | inr e ↦ fault-here e ]
   where
-  fault-here : k ≡ n → orElse (firstFault m T n) (nodeFault m T n) ≡ Some f
-  fault-here e = let F : ℕ → Type 0 = λ j. orElse (firstFault m T j) (nodeFault m T j) ≡ Some f in subst F e (ap (λ o. orElse o (nodeFault m T k)) a ∙ b)
+    fault-here : k ≡ n → orElse (firstFault m T n) (nodeFault m T n) ≡ Some f
+    fault-here e = let F : ℕ → Type 0 = λ j. orElse (firstFault m T j) (nodeFault m T j) ≡ Some f in subst F e (ap (λ o. orElse o (nodeFault m T k)) a ∙ b)
 
 -- what a node's fault is, by its parts
 pub rules-fault : {V : Type 0} (m : Meaning V) (T : Table) (k : ℕ) (f : RuleFault) → ruleFault m T k ≡ Some f → nodeFault m T k ≡ Some (Rules f)
@@ -76,13 +76,14 @@ progress-more m ws q d k h few orders found p o n a b e c =
     record {
       clear = ap (firstFault m T) (add-one k) ∙ ap (λ x. orElse x (nodeFault m T k)) (p .clear) ∙ none;
       ordered = below-more (λ j. nodeOrder T j ≡ Some (sequence (getD (set orders k o) j noPlaces))) k
-        (λ j l. let ne : j ≢ k = λ z. omega arith in p .ordered j l ∙ ap (λ x. Some (sequence x)) (sym (getD-set-other orders k j o noPlaces ne)))
-        (b ∙ ap (λ x. Some (sequence x)) (sym (getD-set-same orders k o noPlaces (omega (arith, p .orders-size)))));
+          (λ j l. let ne : j ≢ k = λ z. omega arith in p .ordered j l ∙ ap (λ x. Some (sequence x)) (sym (getD-set-other orders k j o noPlaces ne)))
+          (b ∙ ap (λ x. Some (sequence x)) (sym (getD-set-same orders k o noPlaces (omega (arith, p .orders-size)))));
       needed = below-more (λ j. getD (set found k n) j 0 ≡ getD (needs T) j 0) k
-        (λ j l. let ne : j ≢ k = λ z. omega arith in getD-set-other found k j n 0 ne ∙ p .needed j l)
-        (getD-set-same found k n 0 (omega (arith, p .needs-size)) ∙ is-need);
+          (λ j l. let ne : j ≢ k = λ z. omega arith in getD-set-other found k j n 0 ne ∙ p .needed j l)
+          (getD-set-same found k n 0 (omega (arith, p .needs-size)) ∙ is-need);
       orders-size = length-set orders k o ∙ p .orders-size;
-      needs-size = length-set found k n ∙ p .needs-size }
+      needs-size = length-set found k n ∙ p .needs-size;
+    }
 
 pub order-fault : {V : Type 0} (m : Meaning V) (T : Table) (k : ℕ) (f : OrderFault) → ruleFault m T k ≡ None → nodeOrder T k ≡ None → f ≡ NoOrder (site k (nodePlace (take k T)))
     → nodeFault m T k ≡ Some (Circle f)

@@ -3,3 +3,4 @@ pub mod Faults
 pub mod Verdict
 pub mod Answers
 pub mod Admission
+pub mod Statement

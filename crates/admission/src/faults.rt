@@ -71,7 +71,12 @@ pub impl From<SizeFault> for Fault as FaultFromSize {
 fn layered(number: u8, layer: Layer, site: Site) -> Report
     ensures { λ r. ⌜ r ≡ layered number layer site ⌝ }
 {
-    Report { number, layer, node: site.node, place: site.place }
+    Report {
+        number,
+        layer,
+        node: site.node,
+        place: site.place,
+    }
 }
 
 fn rule_report(fault: RuleFault) -> Report

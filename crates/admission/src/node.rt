@@ -26,7 +26,11 @@ use waits::fill;
 const MOST_CELLS: u32 = 4096;
 
 /// That node `k` keeps the rules of types, clocks and definitions, or the first fault in that order.
-pub fn rules_kept<S: OperatorSet>(words: &[u32], outline: &Outline, k: usize) -> Result<(), RuleFault>
+pub fn rules_kept<S: OperatorSet>(
+    words: &[u32],
+    outline: &Outline,
+    k: usize,
+) -> Result<(), RuleFault>
     requires described { ⌜ Described (now words) (now outline) ⌝ }
     requires node { ⌜ k < length (tableOf (now words)) ⌝ }
     ensures { λ r. ⌜ r ≡ keptOr (ruleFault (S·OperatorSet .meaning) (tableOf (now (words .entry))) k) ⌝ }
@@ -50,23 +54,36 @@ pub fn ordered(words: &[u32], outline: &Outline, k: usize) -> Result<Order, Orde
     requires node { ⌜ k < length (tableOf (now words)) ⌝ }
     ensures { λ r. ⌜ Ordered (tableOf (now (words .entry))) k r ⌝ }
 {
-    let mut waits = Waits { marks: [false; 4096] };
+    let mut waits = Waits {
+        marks: [false; 4096],
+    };
     fill(words, outline, k, &mut waits.marks);
     match order_of(&waits, equation_count(words, outline, k)) {
         Some(order) => Ok(order),
-        None => Err(OrderFault::NoOrder(Site { node: k as u8, place: outline.starts[k] })),
+        None => Err(OrderFault::NoOrder(Site {
+            node: k as u8,
+            place: outline.starts[k],
+        })),
     }
 }
 
 /// What an instance of node `k` needs, by the needs of the nodes before it, or that it is too much.
-pub fn sized(words: &[u32], outline: &Outline, k: usize, needs: &[u16; 32]) -> Result<u16, SizeFault>
+pub fn sized(
+    words: &[u32],
+    outline: &Outline,
+    k: usize,
+    needs: &[u16; 32],
+) -> Result<u16, SizeFault>
     requires described { ⌜ Described (now words) (now outline) ⌝ }
     requires node { ⌜ k < length (tableOf (now words)) ⌝ }
     ensures { λ r. ⌜ Sized (tableOf (now (words .entry))) k (now (needs .entry)) r ⌝ }
 {
     let need = node_need(words, outline, k, needs);
     if need > MOST_CELLS {
-        return Err(SizeFault::Need(Site { node: k as u8, place: outline.starts[k] }));
+        return Err(SizeFault::Need(Site {
+            node: k as u8,
+            place: outline.starts[k],
+        }));
     }
     Ok(need as u16)
 }

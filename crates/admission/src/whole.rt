@@ -6,10 +6,10 @@ use crate::faults::FaultFromOrder;
 use crate::faults::FaultFromReading;
 use crate::faults::FaultFromRules;
 use crate::faults::FaultFromSize;
+use crate::found::Plan;
 use crate::node::ordered;
 use crate::node::rules_kept;
 use crate::node::sized;
-use crate::found::Plan;
 use opset::OperatorSet;
 use schedule::Order;
 
@@ -18,7 +18,10 @@ pub fn admit<S: OperatorSet>(words: &[u32]) -> Result<Plan, Fault>
     ensures { λ r. ⌜ Judged (S·OperatorSet .meaning) (S·OperatorSet .numbered) (now (words .entry)) r ⌝ }
 {
     let outline = table::read::<S>(words)?;
-    let nothing = Order { places: [0; 64], count: 0 };
+    let nothing = Order {
+        places: [0; 64],
+        count: 0,
+    };
     let mut orders = [nothing; 32];
     let mut needs = [0u16; 32];
     'nodes: for k in 0..outline.nodes as usize {
@@ -26,5 +29,9 @@ pub fn admit<S: OperatorSet>(words: &[u32]) -> Result<Plan, Fault>
         orders[k] = ordered(words, &outline, k)?;
         needs[k] = sized(words, &outline, k, &needs)?;
     }
-    Ok(Plan { outline, orders, needs })
+    Ok(Plan {
+        outline,
+        orders,
+        needs,
+    })
 }

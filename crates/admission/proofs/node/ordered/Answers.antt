@@ -20,7 +20,8 @@ pub returns-in-None : need.returns-in-None
 returns-in-None c =
     let ws = c .args .words .now in
     let k = c .args .k in
-    let few = few-equations ws (c .args .outline .now) (c .pre .described) k (c .pre .node) in
-    (by-marks (nodeAt (tableOf ws) k) (c .fill .last .marks) (c .equation-count .result) None
-      (c .fill .ensures) (c .equation-count .ensures) (c .in-None .ensures tt .value (omega (arith, few, c .equation-count .ensures))),
-      ap (λ p. NoOrder (site k p)) (c .pre .described .spells .outlines .each k (c .pre .node) .start))
+    let few = few-equations ws (c .args .outline .now) (c .pre .described) k (c .pre .node) in (
+      by-marks (nodeAt (tableOf ws) k) (c .fill .last .marks) (c .equation-count .result) None
+          (c .fill .ensures) (c .equation-count .ensures) (c .in-None .ensures tt .value (omega (arith, few, c .equation-count .ensures))),
+      ap (λ p. NoOrder (site k p)) (c .pre .described .spells .outlines .each k (c .pre .node) .start),
+    )
