@@ -16,9 +16,6 @@ pub use faults::OrderFault;
 pub use faults::RuleFault;
 pub use faults::SizeFault;
 pub use found::Plan;
-pub use node::ordered;
-pub use node::rules_kept;
-pub use node::sized;
 pub use whole::admit;
 
 /// For every table within the limits of the format: no node is at fault exactly when the table keeps the rules,
