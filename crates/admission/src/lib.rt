@@ -1,4 +1,6 @@
 // Admission: a table is admitted exactly when it keeps the rules.
+#![tactic(auto)]
+
 ghost use Rattle.admission.specs.Statement.{AdmissionStands};
 
 use opset::OperatorSet;

@@ -1,4 +1,6 @@
 // The blocks of a node's code, piece by piece, and how long they are.
+#![tactic(auto)]
+
 mod block;
 mod lengths;
 mod segments;

@@ -1,4 +1,6 @@
 // What the calls of a run answer, as definitions, and what all of them together promise: the crate fails without the proof.
+#![tactic(auto)]
+
 ghost use Rattle.calls.specs.Promise.{PromiseStands};
 
 use opset::OperatorSet;

@@ -1,4 +1,6 @@
 // The table reader for C and Rust.
+#![tactic(auto)]
+
 ghost use Rattle.std.specs.Prelude.{◌≡◌};
 ghost use Rattle.capi.specs.Answers.{answer_to, written};
 

@@ -1,4 +1,6 @@
 // The script of a bench test: one call a line, one answer a line, as functions on values.
+#![tactic(auto)]
+
 mod answer;
 mod call;
 mod numerals;

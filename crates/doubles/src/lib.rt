@@ -1,4 +1,6 @@
 // Set 2: booleans and binary64.
+#![tactic(auto)]
+
 ghost use Rattle.doubles.specs.Stands.{ArithmeticStands};
 ghost use Rattle.doubles.specs.Examples.{Examples};
 

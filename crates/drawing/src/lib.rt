@@ -1,4 +1,6 @@
 // The table of a bench test: its words, and what admission found for the chosen operator set.
+#![tactic(auto)]
+
 mod drawing;
 mod set_choice;
 mod verdict;

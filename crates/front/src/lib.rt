@@ -1,4 +1,6 @@
 // The front of a table's code, piece by piece, and whether the code is short enough for its buffer.
+#![tactic(auto)]
+
 mod entries;
 mod short;
 

@@ -1,4 +1,6 @@
 // The words of code: what each kind says, and the word that spells it.
+#![tactic(auto)]
+
 ghost use Rattle.instructions.specs.Format.{CodeWordsStand};
 
 mod code_word;

@@ -1,4 +1,6 @@
 // Set 1: booleans and signed 32-bit numbers.
+#![tactic(auto)]
+
 ghost use Rattle.integers.specs.Stands.{ArithmeticStands};
 ghost use Rattle.integers.specs.Examples.{Examples};
 

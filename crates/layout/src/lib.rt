@@ -1,4 +1,6 @@
 // Code of a table can be run untested, and its run does what the table's statements do: the crate fails without the proofs.
+#![tactic(auto)]
+
 ghost use Rattle.layout.specs.Layout.{CodeIsSound, CodeRunsStatements};
 
 use opset::OperatorSet;

@@ -1,4 +1,6 @@
 // Worked examples of masked streams, over the integers.
+#![tactic(auto)]
+
 ghost use Rattle.meaning_examples.specs.Examples.{Examples};
 
 pub fn examples_stand() -> u8

@@ -1,4 +1,6 @@
 // How many cells an instance of a node needs.
+#![tactic(auto)]
+
 ghost use Rattle.std.specs.Prelude.{◌≡◌, ◌<◌, ◌≤◌, length};
 ghost use Rattle.table.specs.Access.{Described};
 ghost use Rattle.table.specs.Decoding.{table_of};

@@ -1,4 +1,6 @@
 // The bench tester's tool: carries out a script, or lists a table.
+#![tactic(auto)]
+
 mod command;
 mod failure;
 

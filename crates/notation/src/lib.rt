@@ -1,4 +1,6 @@
 // The equations of a table that reads, in the notation of a listing.
+#![tactic(auto)]
+
 mod equation;
 mod operand;
 mod operator;

@@ -1,4 +1,6 @@
 // What a set of operators is (`OperatorSet`), and what the sets of booleans beside one kind of number share.
+#![tactic(auto)]
+
 ghost use Rattle.opset.specs.Payload.{PayloadStands};
 
 mod arithmetic;

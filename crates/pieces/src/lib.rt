@@ -1,4 +1,6 @@
 // The code of a table in pieces: the words of each statement, built in a small array of their own.
+#![tactic(auto)]
+
 mod actions;
 mod piece;
 mod statements;

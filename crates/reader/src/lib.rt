@@ -1,4 +1,6 @@
 // Reading a table front to back: its outline, or the first fault.
+#![tactic(auto)]
+
 mod faults;
 mod outline;
 mod scan;

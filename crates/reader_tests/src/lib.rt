@@ -1,4 +1,6 @@
 // The words of a table and its reading at work, case by case. A crate of its own, since a crate with tests is proved twice.
+#![tactic(auto)]
+
 #[cfg(test)]
 mod arbitrary_tests;
 #[cfg(test)]

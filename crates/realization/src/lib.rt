@@ -1,4 +1,6 @@
 // A node's blocks realize its machine, whatever the operator set: the crate fails without the proof.
+#![tactic(auto)]
+
 ghost use Rattle.realization.specs.Realizes.{BlocksRealizeMachines};
 
 use opset::OperatorSet;

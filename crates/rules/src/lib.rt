@@ -1,1 +1,3 @@
 // The rules of types, clocks and definitions.
+#![tactic(auto)]
+

@@ -1,4 +1,6 @@
 // Running code: open, begin, offer, step, pass, restart and reading, and what a reading promises.
+#![tactic(auto)]
+
 mod calls_at_rest;
 mod calls_in_instant;
 mod code;

@@ -1,4 +1,6 @@
 // Runs the blocks of sound code on cells, with no test of a word or a cell.
+#![tactic(auto)]
+
 ghost use Rattle.std.specs.Prelude.{◌≡◌, ◌<◌, ◌≤◌, length};
 ghost use Rattle.execution.specs.Words.{need_at, reset_by, step_by};
 ghost use Rattle.execution.specs.Sound.{nodes_in, Sound};

@@ -1,4 +1,6 @@
 // The order of a node's equations, and what an instance of it needs.
+#![tactic(auto)]
+
 ghost use Rattle.schedule.specs.Found.{OrderExists, OrderSame, OrderStands, OrderUnique};
 
 mod order;

@@ -1,4 +1,6 @@
 // The meaning of tables as masked streams, with its theorems: the crate fails without their proofs.
+#![tactic(auto)]
+
 ghost use Rattle.streams.specs.Statements.{StreamsAlwaysExist, StreamsAlwaysUnique, StreamsAlwaysTyped, MachineShowsStreams, OrderDoesNotMatter};
 
 use opset::OperatorSet;

@@ -1,4 +1,6 @@
 // Tables: what they are made of, and reading one from its words.
+#![tactic(auto)]
+
 ghost use Rattle.std.specs.Prelude.{◌≡◌};
 ghost use Rattle.reader.specs.Whole.{scan_of};
 ghost use Rattle.table.specs.Reading.{Reads};

@@ -1,4 +1,6 @@
 // The rule of types: where a node first breaks it.
+#![tactic(auto)]
+
 mod calls;
 mod equations;
 mod nodes;

@@ -1,4 +1,6 @@
 // Which equations of a node come before which.
+#![tactic(auto)]
+
 mod equation_variables;
 mod links;
 mod order;

@@ -1,4 +1,6 @@
 // The words of a table: what each kind says, and which bits it leaves zero.
+#![tactic(auto)]
+
 ghost use Rattle.words.specs.Format.{WordsStand};
 
 mod decoding;
