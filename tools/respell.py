@@ -56,6 +56,7 @@ INSTEAD = {
 
 NAME = r"[A-Za-z0-9_'′\-\u0370-\u03ff\u1d00-\u1dbf\u2070-\u209c\u2115\u2124∥]+"
 TOKEN = re.compile(NAME)
+GENERATED = ("Answers.antt", "Invariants.antt", "Choices.antt", "Proof.antt")
 MARKS = ("pattern", "unfoldable", "abbrev", "pub", "data", "record")
 
 
@@ -135,9 +136,9 @@ def mapping(root):
     return {n: respelled(n, t) for n, t in declared(root).items() if respelled(n, t) != n}
 
 
-def turn_tokens(text, names):
+def turn_tokens(text, names, answers=False):
     def one(m):
-        given = re.search(r"(^|[^%s.])[cl]\.$" % NAME[1:-2], text[max(0, m.start() - 3): m.start()])
+        given = answers and re.search(r"(^|[^%s.])[cl]\.$" % NAME[1:-2], text[max(0, m.start() - 3): m.start()])
         return m.group(0) if given else names.get(m.group(0), m.group(0))
 
     return TOKEN.sub(one, text)
@@ -147,7 +148,7 @@ def turn_quoted(text, names):
     return re.sub(r"`[^`\n]*`", lambda m: turn_tokens(m.group(0), names), text)
 
 
-def turn_antt(text, names):
+def turn_antt(text, names, answers=False):
     out = []
     for line in text.split("\n"):
         code, dash, comment = line, "", ""
@@ -156,7 +157,7 @@ def turn_antt(text, names):
             code, comment = line[: m.start()], line[m.start():]
         # the module of a function's goals keeps its name, and so does what stands in a goal's record
         if not re.search(r"\.(Goals|Given) as ", code):
-            code = turn_tokens(code, names)
+            code = turn_tokens(code, names, answers)
         out.append(code + turn_quoted(comment, names))
     return "\n".join(out)
 
@@ -211,7 +212,7 @@ def main(argv):
     for path in list(files(os.path.join(root, "crates"), ".antt", ".antt.txt", ".rt", ".rt.txt", ".edit", ".edit.txt")):
         old = read(path)
         plain = path[:-4] if path.endswith(".txt") else path
-        turn = turn_antt if plain.endswith(".antt") else turn_source if plain.endswith(".rt") else turn_edit
+        turn = (lambda t, n: turn_antt(t, n, plain.endswith(GENERATED))) if plain.endswith(".antt") else turn_source if plain.endswith(".rt") else turn_edit
         new = turn(old, names)
         if new != old:
             with open(path, "w", encoding="utf-8") as f:

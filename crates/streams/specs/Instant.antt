@@ -8,7 +8,7 @@ use Rattle.schedule.specs.Reads.{equation_at}
 use Rattle.admission.specs.Keeps.{equation_count}
 use Rattle.streams.specs.Streams.{Env, entry, sensed, holds, value_of, values_of, second_of}
 use Rattle.streams.specs.History.{RowLong}
-use Rattle.streams.specs.Machine.{Tree, delays as delaysOf, instances as instancesOf, Machine, given_at, next_delay, next_tree, machine_below, machine}
+use Rattle.streams.specs.Machine.{Tree, delays as delays_of, instances as instances_of, Machine, given_at, next_delay, next_tree, machine_below, machine}
 
 -- what an equation reads where its clock holds is present: of MERGE's operands the selected one
 abbrev pub OperandsPresent : {V : Type 0} → Meaning V → Node → Bool → Env V → Equation → Type 0
@@ -30,8 +30,8 @@ pub record Instant {V : Type 0} (m : Meaning V) (T : Table) (C : ℕ → Machine
   pub operands : (j : ℕ) → j < equation_count N → OperandsPresent m N (is_some vs) E (equation_at N j)
   -- each variable is what its equation gives
   pub equations : (j y : ℕ) → j < equation_count N → is_in y (defined (equation_at N j)) ≡ true → E y ≡ given_at m T C N M vs j E y
-  pub delays : (j : ℕ) → delaysOf next j ≡ next_delay m T C (equation_at N j) E (delaysOf M j)
-  pub instances : (j : ℕ) → instancesOf next j ≡ next_tree m T C N (is_some vs) (equation_at N j) E (instancesOf M j)
+  pub delays : (j : ℕ) → delays_of next j ≡ next_delay m T C (equation_at N j) E (delays_of M j)
+  pub instances : (j : ℕ) → instances_of next j ≡ next_tree m T C N (is_some vs) (equation_at N j) E (instances_of M j)
 
 -- a memory has a value for each delay, in its instances too
 abbrev pub FilledAt : {V : Type 0} → (ℕ → Tree V → Type 0) → Equation → Option V → Tree V → Type 0
@@ -43,7 +43,7 @@ FilledAt R (delay l a x) d t = is_some d ≡ true
 FilledAt R (call g r ops gs) d t = R g t
 
 abbrev pub FilledNode : {V : Type 0} → (ℕ → Tree V → Type 0) → Node → Tree V → Type 0
-FilledNode R N M = (j : ℕ) → j < equation_count N → FilledAt R (equation_at N j) (delaysOf M j) (instancesOf M j)
+FilledNode R N M = (j : ℕ) → j < equation_count N → FilledAt R (equation_at N j) (delays_of M j) (instances_of M j)
 
 abbrev pub FilledBelow : {V : Type 0} → Table → ℕ → ℕ → Tree V → Type 0
 FilledBelow T zero g = λ M. ⊥

@@ -167,18 +167,18 @@ built P v (Head set) ops gs c = absurd c.head
 built P v (Open p) ops gs c = absurd c.head
 built P v (Declare y) ops gs c = absurd c.head
 built P v (Operate op x) ops gs c =
-    operate_by P v op x ops gs (ltb op 128) refl c.head.0 c.head.1 c.operands c.operandCount c.giveCount
-built P v (Sample x) ops gs c = sample_built P v x ops gs c.head c.operands c.operandCount c.giveCount
+    operate_by P v op x ops gs (ltb op 128) refl c.head.0 c.head.1 c.operands c.operand_count c.give_count
+built P v (Sample x) ops gs c = sample_built P v x ops gs c.head c.operands c.operand_count c.give_count
 built P v (Merge s x) ops gs c =
-    merge_built P v s x ops gs c.head.0 c.head.1 c.operands c.operandCount c.giveCount
+    merge_built P v s x ops gs c.head.0 c.head.1 c.operands c.operand_count c.give_count
 built P v (Choose s x) ops gs c =
-    choose_built P v s x ops gs c.head.0 c.head.1 c.operands c.operandCount c.giveCount
+    choose_built P v s x ops gs c.head.0 c.head.1 c.operands c.operand_count c.give_count
 built P v (Delay x) ops gs c =
-    delay_built P v x ops gs c.head c.operands c.operandCount c.giveCount c.literal
+    delay_built P v x ops gs c.head c.operands c.operand_count c.give_count c.literal
 built P v (Call g r) ops gs c = record {
   equation = call g r ops gs;
   words = refl;
-  keeps = (c.head.0, c.head.1, c.operands, c.gives, c.operandCount, c.giveCount);
+  keeps = (c.head.0, c.head.1, c.operands, c.gives, c.operand_count, c.give_count);
 }
 built P v (With a) ops gs c = absurd c.head
 built P v (Give x) ops gs c = absurd c.head

@@ -10,5 +10,5 @@ pub returns : goal.returns
 returns c =
     let ws = c.args.words.now in
     let F : Drawn → Type 0 = λ D. Draws ws (table_of ws) c.args.k D (equation_at (node_at (table_of ws) c.args.k) c.args.e) in
-    subst F (sym c.drawn-at.ensures)
+    subst F (sym c.drawn_at.ensures)
     (equation_stands ws c.args.outline.now c.requires.described c.args.k c.requires.node c.args.e c.requires.within)

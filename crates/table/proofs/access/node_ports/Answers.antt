@@ -5,5 +5,5 @@ use Rattle.table.proofs.access.node_ports.Goals as goal
 
 pub returns : goal.returns
 returns c =
-    c.ports-in.ensures ∙ ap ports_in c.word-at.ensures
+    c.ports_in.ensures ∙ ap ports_in c.word_at.ensures
     ∙ ports_stand c.args.words.now c.args.outline.now c.requires.described c.args.k c.requires.node

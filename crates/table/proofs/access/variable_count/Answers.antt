@@ -10,6 +10,6 @@ pub returns : goal.returns
 returns c =
     let ws = c.args.words.now in
     let o = c.args.outline.now in
-    let e = c.node-ports-ports.ensures in
+    let e = c.node_ports-ports.ensures in
     let n = ports_count ws o c.requires c.args.k (omega (arith, c.requires.spells.outlines.nodes)) in
     omega (arith, ap (λ p. p.inputs) e, ap (λ p. p.outputs) e, ap (λ p. p.locals) e, n)
