@@ -6,8 +6,8 @@ use Rattle.rules.specs.First.{first_bad}
 use Rattle.rules.proofs.First.{bad_some}
 use Rattle.clocks.proofs.nodes.clock_offence.Goals as goal
 
-pub variable-place-requires : goal.variable-place-requires
-variable-place-requires c =
+pub variable_place-requires : goal.variable_place-requires
+variable_place-requires c =
     let N = node_at (table_of c.args.words.now) c.args.k in
     record {
       described = c.requires.described;
@@ -15,10 +15,10 @@ variable-place-requires c =
       within = (bad_some (variable_clocked N) (variable_count N) c.in-Some.x (sym c.in-Some.ensures)).below;
     }
 
-pub equation-place-requires : goal.equation-place-requires
-equation-place-requires c =
+pub equation_place-requires : goal.equation_place-requires
+equation_place-requires c =
     let N = node_at (table_of c.args.words.now) c.args.k in
-    let found = c.in-Some-first-unclocked-equation in
+    let found = c.in-Some-first_unclocked_equation in
     record {
       described = c.requires.described;
       node = c.requires.node;

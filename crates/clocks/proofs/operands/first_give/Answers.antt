@@ -3,4 +3,4 @@ use Rattle.clocks.proofs.Suffixes.{give_first}
 use Rattle.clocks.proofs.operands.first_give.Goals as goal
 
 pub returns-then-count-gt0 : goal.returns-then-count-gt0
-returns-then-count-gt0 c = c.give-at.ensures ∙ give_first c.args.words.now c.args.at c.args.count (omega arith)
+returns-then-count-gt0 c = c.give_at.ensures ∙ give_first c.args.words.now c.args.at c.args.count (omega arith)

@@ -7,19 +7,19 @@ use Rattle.definitions.proofs.Bounds.{place_small, variable_place_lem, variables
 use Rattle.definitions.proofs.Steps.{offender_by}
 use Rattle.definitions.proofs.offence.definition_offence.Goals as goal
 
-pub first-offender-requires : goal.first-offender-requires
-first-offender-requires c =
+pub first_offender-requires : goal.first_offender-requires
+first_offender-requires c =
     let v = variables_few c.args.words.now c.args.outline.now c.requires.described c.args.k c.requires.node in
     let few = ports_few c.args.words.now c.args.outline.now c.requires.described c.args.k in
     record {
-      few = omega (arith, c.variable-count.ensures, v);
-      ports = (omega (arith, few.0, c.input-count-inputs.ensures), omega (arith, few.1, c.output-count-outputs.ensures));
+      few = omega (arith, c.variable_count.ensures, v);
+      ports = (omega (arith, few.0, c.input_count-inputs.ensures), omega (arith, few.1, c.output_count-outputs.ensures));
     }
 
-pub variable-place-requires : goal.variable-place-requires
-variable-place-requires c =
+pub variable_place-requires : goal.variable_place-requires
+variable_place-requires c =
     let x = c.in-Some.x in
-    let l : x < variable_count (node_at (table_of c.args.words.now) c.args.k) = omega (arith, c.in-Some.ensures.below, c.variable-count.ensures) in
+    let l : x < variable_count (node_at (table_of c.args.words.now) c.args.k) = omega (arith, c.in-Some.ensures.below, c.variable_count.ensures) in
     omega (arith, place_small c.args.words.now c.args.outline.now c.requires.described c.args.k c.requires.node x l)
 
 pub returns-in-Some : goal.returns-in-Some
@@ -27,9 +27,9 @@ returns-in-Some c =
     let ws = c.args.words.now in
     let T = table_of ws in
     let k = c.args.k in
-    let f = offender_by c.of-node-tally.result (node_at T k) _ _ _ c.of-node-tally.ensures
-    (variables_few ws c.args.outline.now c.requires.described k c.requires.node) c.input-count-inputs.ensures c.output-count-outputs.ensures c.variable-count.ensures in
-    ap Some (c.variable-place.ensures ∙ ap (λ p. p + 1 + c.in-Some.x) (variable_place_lem ws c.args.outline.now c.requires.described k c.requires.node))
+    let f = offender_by c.of_node-tally.result (node_at T k) _ _ _ c.of_node-tally.ensures
+    (variables_few ws c.args.outline.now c.requires.described k c.requires.node) c.input_count-inputs.ensures c.output_count-outputs.ensures c.variable_count.ensures in
+    ap Some (c.variable_place.ensures ∙ ap (λ p. p + 1 + c.in-Some.x) (variable_place_lem ws c.args.outline.now c.requires.described k c.requires.node))
     ∙ ap (option_map (variable_place T k)) (c.in-Some.ensures.value ∙ f)
 
 pub returns-in-None : goal.returns-in-None
@@ -37,6 +37,6 @@ returns-in-None c =
     let ws = c.args.words.now in
     let T = table_of ws in
     let k = c.args.k in
-    let f = offender_by c.of-node-tally.result (node_at T k) _ _ _ c.of-node-tally.ensures
-    (variables_few ws c.args.outline.now c.requires.described k c.requires.node) c.input-count-inputs.ensures c.output-count-outputs.ensures c.variable-count.ensures in
+    let f = offender_by c.of_node-tally.result (node_at T k) _ _ _ c.of_node-tally.ensures
+    (variables_few ws c.args.outline.now c.requires.described k c.requires.node) c.input_count-inputs.ensures c.output_count-outputs.ensures c.variable_count.ensures in
     ap (option_map (variable_place T k)) (c.in-None.ensures.value ∙ f)

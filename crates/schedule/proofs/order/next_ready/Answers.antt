@@ -21,13 +21,13 @@ scan-preserved c =
     let P = is_placed c.args.placed.now.marks in (
       c.scan.invariant.0,
       first_more (ready B c.args.n P) c.scan.j c.scan.invariant.1
-          (held_back B c.args.n P c.scan.j c.loop-i.i (omega arith) c.if-holds-back.ensures),
+          (held_back B c.args.n P c.scan.j c.loop-i.i (omega arith) c.if-holds_back.ensures),
     )
 
 pub loop-i-preserved : goal.loop-i-preserved
 loop-i-preserved c =
     free_more (comes_before c.args.waits.now.marks) c.args.n (is_placed c.args.placed.now.marks) c.scan.j
-    c.loop-i.i c.loop-i.invariant c.if-holds-back.ensures
+    c.loop-i.i c.loop-i.invariant c.if-holds_back.ensures
 
 pub returns-after-loop-i : goal.returns-after-loop-i
 returns-after-loop-i c =

@@ -11,21 +11,21 @@ loop-init c = rw c.none-placed.ensures (going_none (comes_before c.args.waits.no
 
 pub put-requires : goal.put-requires
 put-requires c =
-    let h = next_below (comes_before c.args.waits.now.marks) c.args.n (is_placed c.loop.placed.marks) c.in-ok-j.j c.in-ok-j.ensures in
+    let h = next_below (comes_before c.args.waits.now.marks) c.args.n (is_placed c.loop.placed.marks) c.in_ok-j.j c.in_ok-j.ensures in
     (omega arith, omega (arith, c.loop.invariant.counted))
 
 pub loop-preserved : goal.loop-preserved
 loop-preserved c =
     rw c.put.ensures
-    (going_next (comes_before c.args.waits.now.marks) c.args.n c.loop.counter c.loop.placed c.in-ok-j.j
-    c.loop.invariant (omega arith) (omega arith) c.in-ok-j.ensures)
+    (going_next (comes_before c.args.waits.now.marks) c.args.n c.loop.counter c.loop.placed c.in_ok-j.j
+    c.loop.invariant (omega arith) (omega arith) c.in_ok-j.ensures)
 
-pub returns-in-err-j : goal.returns-in-err-j
-returns-in-err-j c =
+pub returns-in_err-j : goal.returns-in_err-j
+returns-in_err-j c =
     let B = comes_before c.args.waits.now.marks in
     let n = c.args.n in
-    let e = going_stuck B n c.loop.counter c.loop.placed c.loop.invariant (omega arith) c.in-err-j.ensures in
-    rw c.from-residual.ensures
+    let e = going_stuck B n c.loop.counter c.loop.placed c.loop.invariant (omega arith) c.in_err-j.ensures in
+    rw c.from_residual.ensures
     (record { past = λ _. refl; counted = tt; value = λ _. e; scheduled = λ _. subst (Scheduled B n) (sym e) (order_stands B n) })
 
 pub returns : goal.returns

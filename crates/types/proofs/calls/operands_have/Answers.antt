@@ -4,20 +4,20 @@ use Rattle.table.specs.Syntax.{node_at}
 use Rattle.types.proofs.Called.{operands_more, operands_fail, operands_end}
 use Rattle.types.proofs.calls.operands_have.Goals as goal
 
-pub returns-then-not-operand-suits : goal.returns-then-not-operand-suits
-returns-then-not-operand-suits g c =
+pub returns-then-not-operand_suits : goal.returns-then-not-operand_suits
+returns-then-not-operand_suits g c =
     let T = table_of c.args.words.now in
     let G = node_at T c.args.g in
-    operands_fail g.S.OperatorSet.meaning (node_at T c.args.k) G c.args.words.now c.args.at G.inputs c.inputs.i (omega (arith, c.input-count-i-end.ensures)) c.inputs.invariant c.if-not-operand-suits.ensures
+    operands_fail g.S.OperatorSet.meaning (node_at T c.args.k) G c.args.words.now c.args.at G.inputs c.inputs.i (omega (arith, c.input_count-i-end.ensures)) c.inputs.invariant c.if-not-operand_suits.ensures
 
 pub inputs-preserved : goal.inputs-preserved
 inputs-preserved g c =
     let T = table_of c.args.words.now in
     let G = node_at T c.args.g in
-    operands_more g.S.OperatorSet.meaning (node_at T c.args.k) G c.args.words.now c.args.at G.inputs c.inputs.i (omega (arith, c.input-count-i-end.ensures)) c.inputs.invariant c.if-not-operand-suits.ensures
+    operands_more g.S.OperatorSet.meaning (node_at T c.args.k) G c.args.words.now c.args.at G.inputs c.inputs.i (omega (arith, c.input_count-i-end.ensures)) c.inputs.invariant c.if-not-operand_suits.ensures
 
 pub returns : goal.returns
 returns g c =
     let T = table_of c.args.words.now in
     let G = node_at T c.args.g in
-    operands_end g.S.OperatorSet.meaning (node_at T c.args.k) G c.args.words.now c.args.at G.inputs c.inputs.i (omega (arith, c.input-count-i-end.ensures)) c.inputs.invariant
+    operands_end g.S.OperatorSet.meaning (node_at T c.args.k) G c.args.words.now c.args.at G.inputs c.inputs.i (omega (arith, c.input_count-i-end.ensures)) c.inputs.invariant

@@ -15,32 +15,32 @@ samplers-init c = ([], c.new-set.ensures, refl, omega arith)
 
 pub insert-requires : goal.insert-requires
 insert-requires c =
-    sampler_small c.args.words.now c.args.outline.now c.requires c.args.k c.samplers.new c.in-On.sampler c.in-On.field-1
+    sampler_small c.args.words.now c.args.outline.now c.requires c.args.k c.samplers.last c.in-On.sampler c.in-On.field-1
     (sym (ap (λ v. v.clock) c.variable.ensures) ∙ c.in-On.is)
 
 pub samplers-preserved : goal.samplers-preserved
 samplers-preserved c =
     let N = node_at (table_of c.args.words.now) c.args.k in
-    let i = c.samplers.-passed in
+    let i = c.samplers._passed in
     let s = c.in-On.sampler in
-    let clock : clock_of N c.samplers.new ≡ On s c.in-On.field-1 = sym (ap (λ v. v.clock) c.variable.ensures) ∙ c.in-On.is in
+    let clock : clock_of N c.samplers.last ≡ On s c.in-On.field-1 = sym (ap (λ v. v.clock) c.variable.ensures) ∙ c.in-On.is in
     let done = c.samplers.invariant.0 in (
       done ++ s ∷ [],
       holds_swap _ (s ∷ []) done (c.insert.ensures done c.samplers.invariant.1),
-      c.samplers.invariant.2 ∙ ap (λ l. done ++ l) (chain_on i N c.samplers.new s c.in-On.field-1 (omega arith) clock) ∙ sym (append_assoc done (s ∷ []) (chain_to (8 - (i + 1)) N s)),
-      omega (arith, sampler_small c.args.words.now c.args.outline.now c.requires c.args.k c.samplers.new s c.in-On.field-1 clock),
+      c.samplers.invariant.2 ∙ ap (λ l. done ++ l) (chain_on i N c.samplers.last s c.in-On.field-1 (omega arith) clock) ∙ sym (append_assoc done (s ∷ []) (chain_to (8 - (i + 1)) N s)),
+      omega (arith, sampler_small c.args.words.now c.args.outline.now c.requires c.args.k c.samplers.last s c.in-On.field-1 clock),
     )
 
 pub returns-in-Base : goal.returns-in-Base
 returns-in-Base c =
     let N = node_at (table_of c.args.words.now) c.args.k in
-    let clock : clock_of N c.samplers.new ≡ Base = sym (ap (λ v. v.clock) c.variable.ensures) ∙ c.in-Base.is in
+    let clock : clock_of N c.samplers.last ≡ Base = sym (ap (λ v. v.clock) c.variable.ensures) ∙ c.in-Base.is in
     let done = c.samplers.invariant.0 in
-    holds_as _ _ _ (sym (c.samplers.invariant.2 ∙ ap (λ l. done ++ l) (chain_base (8 - c.samplers.-passed) N c.samplers.new clock) ∙ append-nil done)) c.samplers.invariant.1
+    holds_as _ _ _ (sym (c.samplers.invariant.2 ∙ ap (λ l. done ++ l) (chain_base (8 - c.samplers._passed) N c.samplers.last clock) ∙ append-nil done)) c.samplers.invariant.1
 
 pub returns-after-samplers : goal.returns-after-samplers
 returns-after-samplers c =
     let N = node_at (table_of c.args.words.now) c.args.k in
-    let e : 8 - c.samplers.-passed ≡ 0 = omega arith in
+    let e : 8 - c.samplers._passed ≡ 0 = omega arith in
     let done = c.samplers.invariant.0 in
-    holds_as _ _ _ (sym (c.samplers.invariant.2 ∙ ap (λ d. done ++ chain_to d N c.samplers.new) e ∙ append-nil done)) c.samplers.invariant.1
+    holds_as _ _ _ (sym (c.samplers.invariant.2 ∙ ap (λ d. done ++ chain_to d N c.samplers.last) e ∙ append-nil done)) c.samplers.invariant.1

@@ -9,5 +9,5 @@ use Rattle.waits.proofs.equation_variables.chain_set.Given as goal
 abbrev pub invariant-samplers : goal.invariant-samplers
 invariant-samplers l =
     (passed : List ℕ) × Holds l.set passed
-    × (chain (node_at (table_of l.words) l.k) l.x ≡ passed ++ chain_to (8 - l.-passed) (node_at (table_of l.words) l.k) l.last)
+    × (chain (node_at (table_of l.words) l.k) l.x ≡ passed ++ chain_to (8 - l._passed) (node_at (table_of l.words) l.k) l.last)
     × (l.last < 256)

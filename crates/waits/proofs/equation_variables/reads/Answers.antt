@@ -7,15 +7,15 @@ use Rattle.waits.specs.Members.{OperandSmall}
 use Rattle.waits.proofs.Small.{EquationSmall, equation_small}
 use Rattle.waits.proofs.equation_variables.reads.Goals as goal
 
-pub plain-reads-requires : goal.plain-reads-requires
-plain-reads-requires c =
+pub plain_reads-requires : goal.plain_reads-requires
+plain_reads-requires c =
     let S : Equation → Type 0 = λ E. EquationSmall E in
     let s = subst S c.in-Operate.ensures
     (equation_small c.args.words.now c.args.outline.now c.requires.described c.args.k c.requires.node c.args.e c.requires.equation) in
     record { described = c.requires.described; small = (s.0, s.1) }
 
-pub plain-reads-requires-in-Sample : goal.plain-reads-requires-in-Sample
-plain-reads-requires-in-Sample c =
+pub plain_reads-requires-in-Sample : goal.plain_reads-requires-in-Sample
+plain_reads-requires-in-Sample c =
     let ws = c.args.words.now in
     let E = equation_at (node_at (table_of ws) c.args.k) c.args.e in
     let F : Drawn → Type 0 = λ D. Draws ws (table_of ws) c.args.k D E in
@@ -28,8 +28,8 @@ plain-reads-requires-in-Sample c =
     ] in
     record { described = c.requires.described; small = (a, tt) }
 
-pub selected-reads-requires : goal.selected-reads-requires
-selected-reads-requires c =
+pub selected_reads-requires : goal.selected_reads-requires
+selected_reads-requires c =
     let ws = c.args.words.now in
     let E = equation_at (node_at (table_of ws) c.args.k) c.args.e in
     let F : Drawn → Type 0 = λ D. Draws ws (table_of ws) c.args.k D E in
@@ -42,8 +42,8 @@ selected-reads-requires c =
     ] in
     record { described = c.requires.described; small = (t.0, (t.1, t.2)) }
 
-pub call-reads-requires : goal.call-reads-requires
-call-reads-requires c =
+pub call_reads-requires : goal.call_reads-requires
+call_reads-requires c =
     let S : Equation → Type 0 = λ E. EquationSmall E in
     let q = c.in-Call.ensures in
     let s = equation_small c.args.words.now c.args.outline.now c.requires.described c.args.k c.requires.node c.args.e c.requires.equation in

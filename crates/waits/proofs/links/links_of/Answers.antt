@@ -7,5 +7,5 @@ returns c =
       reads = c.reads.ensures;
       defines = c.defines.ensures;
       small = defined_small c.args.words.now c.args.outline.now c.requires.described c.args.k c.requires.node c.args.e c.requires.equation;
-      delay = c.is-delay.ensures;
+      delay = c.is_delay.ensures;
     }

@@ -13,12 +13,12 @@ equations-preserved c =
     let few = equations_few c.args.words.now c.args.outline.now c.requires.described c.args.k c.requires.node in
     let links = c.equations.links in
     let i = c.equations.e in
-    let new = c.links-of.result in (
+    let new = c.links_of.result in (
       simp length-set c.equations.invariant.0,
       below_more _ _
           (λ e h.
           let F : Links → Type 0 = λ x. Linked N x (equation_at N e) in
           subst F (sym (get_or-set_other links i e new no_links (λ q. omega arith))) (c.equations.invariant.1 e h))
           (let F : Links → Type 0 = λ x. Linked N x (equation_at N i) in
-          subst F (sym (get_or-set_same links i new no_links (omega (arith, c.equations.invariant.0, c.equation-count-e-end.ensures, few)))) c.links-of.ensures),
+          subst F (sym (get_or-set_same links i new no_links (omega (arith, c.equations.invariant.0, c.equation_count-e-end.ensures, few)))) c.links_of.ensures),
     )

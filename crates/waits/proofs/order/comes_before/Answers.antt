@@ -5,4 +5,4 @@ use Rattle.waits.proofs.order.comes_before.Goals as goal
 pub returns : goal.returns
 returns c =
     let N = node_at (table_of c.args.words.now) c.args.k in
-    c.goes-first.ensures N (equation_at N c.args.i) (equation_at N c.args.j) c.links-of.ensures c.links-of-2.ensures
+    c.goes_first.ensures N (equation_at N c.args.i) (equation_at N c.args.j) c.links_of.ensures c.links_of-2.ensures

@@ -8,8 +8,8 @@ use Rattle.definitions.proofs.Bounds.{gives_past, ports_few}
 use Rattle.definitions.proofs.tally.Tally.count_call.Goals as goal
 use Rattle.definitions.proofs.tally.Tally.count_call.Goals.{then-at-words, else-at-words}
 
-pub count-gives-requires : goal.count-gives-requires
-count-gives-requires c =
+pub count_gives-requires : goal.count_gives-requires
+count_gives-requires c =
     let few = ports_few c.args.words.now c.args.outline.now c.requires.described c.args.g in
     let near : c.if-at-words.at ≤ 16384 =
     elim c.if-at-words.branch [
@@ -17,8 +17,8 @@ count-gives-requires c =
       | else-at-words w ↦ omega (arith, w.at-is, c.requires.described.spells.short)
     ] in
     record {
-      near = omega (arith, c.input-count.ensures, few.0, near);
-      few = omega (arith, c.output-count.ensures, few.1);
+      near = omega (arith, c.input_count.ensures, few.0, near);
+      few = omega (arith, c.output_count.ensures, few.1);
       room = c.requires.room;
     }
 
@@ -32,9 +32,9 @@ returns c =
       | then-at-words w ↦ ap (λ p. gives_at ws (p + N.inputs) N.outputs) w.at-is
       | else-at-words w ↦ gives_past ws N.outputs (a + N.inputs) (c.args.at + N.inputs) (omega (arith, w.at-is)) (omega (arith, w.if-at-words.false))
     ] in
-    let e = ap (λ i. gives_at ws (a + i) c.output-count.result) c.input-count.ensures
-    ∙ ap (gives_at ws (a + N.inputs)) c.output-count.ensures ∙ moved in
+    let e = ap (λ i. gives_at ws (a + i) c.output_count.result) c.input_count.ensures
+    ∙ ap (gives_at ws (a + N.inputs)) c.output_count.ensures ∙ moved in
     record {
-      counts = λ x h. c.count-gives.ensures.counts x h ∙ ap (λ l. count_of c.args.self.now x + times x l) e;
-      delays = c.count-gives.ensures.delays;
+      counts = λ x h. c.count_gives.ensures.counts x h ∙ ap (λ l. count_of c.args.self.now x + times x l) e;
+      delays = c.count_gives.ensures.delays;
     }

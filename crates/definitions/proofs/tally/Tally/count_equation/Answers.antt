@@ -33,17 +33,17 @@ count-requires c =
     let s = one_small ws c.args.outline.now c.requires.described c.args.k c.requires.node c.args.e c.requires.within x one in
     record { small = s; room = roomy c.args.self.now x c.requires.room s }
 
-pub count-delay-requires : goal.count-delay-requires
-count-delay-requires c =
+pub count_delay-requires : goal.count_delay-requires
+count_delay-requires c =
     let x = c.in-Delay.x in
     let s = one_small c.args.words.now c.args.outline.now c.requires.described c.args.k c.requires.node c.args.e c.requires.within x (ap defined c.in-Delay.ensures) in
     record { small = s; room = roomy c.args.self.now x c.requires.room s }
 
-pub count-call-requires : goal.count-call-requires
-count-call-requires c = record { described = c.requires.described; node = omega (arith, c.in-Call.ensures.0, c.requires.node); room = c.requires.room }
+pub count_call-requires : goal.count_call-requires
+count_call-requires c = record { described = c.requires.described; node = omega (arith, c.in-Call.ensures.0, c.requires.node); room = c.requires.room }
 
 pub returns-in-Delay : goal.returns-in-Delay
-returns-in-Delay c = let q = c.in-Delay.ensures in adds_delay _ _ _ _ (ap defined q) (ap is_delay q) c.count-delay.ensures
+returns-in-Delay c = let q = c.in-Delay.ensures in adds_delay _ _ _ _ (ap defined q) (ap is_delay q) c.count_delay.ensures
 
 pub returns-in-Call : goal.returns-in-Call
-returns-in-Call c = let q = c.in-Call.ensures.1 in adds_plain _ _ _ _ (ap defined q) (ap is_delay q) c.count-call.ensures
+returns-in-Call c = let q = c.in-Call.ensures.1 in adds_plain _ _ _ _ (ap defined q) (ap is_delay q) c.count_call.ensures
