@@ -54,14 +54,14 @@ restart_sole v (Some r) = hlevel props
 
 second_sole : (v op : ℕ) (b : Option Operand) → IsProp (SecondKeeps v op b)
 second_sole v op None = hlevel props
-second_sole v op (Some b) = search (props, operand_sole)
+second_sole v op (Some b) = hlevel (props, operand_sole)
 
 equation_sole : (earlier : Table) (v : ℕ) (E : Equation) → IsProp (EquationKeeps earlier v E)
-equation_sole earlier v (operate op a b x) = search (props, operand_sole, second_sole)
-equation_sole earlier v (sample a x) = search (props, operand_sole)
-equation_sole earlier v (merge s a b x) = search (props, operand_sole)
-equation_sole earlier v (choose s a b x) = search (props, operand_sole)
-equation_sole earlier v (delay l a x) = search (props, operand_sole, literal_sole)
+equation_sole earlier v (operate op a b x) = hlevel (props, operand_sole, second_sole)
+equation_sole earlier v (sample a x) = hlevel (props, operand_sole)
+equation_sole earlier v (merge s a b x) = hlevel (props, operand_sole)
+equation_sole earlier v (choose s a b x) = hlevel (props, operand_sole)
+equation_sole earlier v (delay l a x) = hlevel (props, operand_sole, literal_sole)
 equation_sole earlier v (call g r ops gs) =
     let node : IsProp (g < length earlier) = hlevel props in
     let taken : IsProp (All (OperandKeeps v) ops) = all_sole (OperandKeeps v) (operand_sole v) ops in
