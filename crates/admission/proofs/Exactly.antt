@@ -1,25 +1,21 @@
 -- No node is at fault exactly when the table keeps the rules.
-use Rattle.std.proofs.Common.{◌≡◌, ℕ, zero, suc, ◌+◌, ◌<◌, ◌≤◌, Bool, true, false, cond, leb, List, length, get_or, take, is_some as option_is_some, Some, None, Option, sym, refl, ap, ◌∙◌, subst, arith, below_more, leb-true}
+use Rattle.std.proofs.Common.{◌≡◌, ℕ, zero, suc, ◌<◌, ◌≤◌, Bool, true, false, cond, leb, length, get_or, take, is_some as option_is_some, Some, None, Option, refl, ap, ◌∙◌, arith, below_more, leb-true}
 use Rattle.std.specs.Option.{option_map}
 use Rattle.opset.specs.Meaning.{Meaning}
-use Rattle.table.specs.Syntax.{Node, Table, node_at, variable_count, equation_at, equation_count}
-use Rattle.table.specs.Spelling.{KeepsLimits}
+use Rattle.table.specs.Syntax.{Table, node_at, variable_count, equation_at, equation_count}
 use Rattle.rules.specs.First.{or_else, first_bad}
 use Rattle.rules.proofs.First.{bad_none, none_from}
 use Rattle.rules.specs.Types.{variable_typed, equation_typed}
 use Rattle.rules.specs.Clocks.{variable_clocked, equation_clocked}
 use Rattle.rules.specs.Definitions.{variable_defined}
-use Rattle.rules.specs.Offences.{variable_place, equation_place, type_offence, clock_offence, definition_offence}
+use Rattle.rules.specs.Offences.{variable_place, type_offence, clock_offence, definition_offence}
 use Rattle.schedule.specs.Reads.{before}
-use Rattle.schedule.specs.Order.{Order}
-use Rattle.schedule.specs.Found.{order_of}
 use Rattle.schedule.specs.Need.{needs}
 use Rattle.schedule.proofs.Unique.{order_exists}
-use Rattle.admission.specs.declared.faults.Fault.{Fault}
 use Rattle.admission.specs.declared.faults.Fault.TheVariants.{Rules, Order as Circle, Size}
-use Rattle.admission.specs.Keeps.{KeepsNode, KeepsRules}
+use Rattle.admission.specs.Keeps.{KeepsNode}
 use Rattle.admission.specs.Verdict.{rule_fault, node_order, order_fault, size_fault, node_fault, first_fault}
-use Rattle.admission.specs.Statement.{Exactly, AdmissionStands}
+use Rattle.admission.specs.Statement.{AdmissionStands}
 use Rattle.admission.proofs.Progress.{no_fault}
 
 -- nothing of two, and of what is mapped

@@ -1,8 +1,8 @@
 -- The needs of a table's nodes, one behind the other.
-use Rattle.std.proofs.Common.{◌≡◌, ℕ, zero, suc, ◌+◌, ◌<◌, ◌≤◌, List, [], ◌∷◌, ◌++◌, length, get_or, take, sym, refl, ap, ◌∙◌, arith}
+use Rattle.std.proofs.Common.{◌≡◌, ℕ, zero, suc, ◌+◌, ◌<◌, List, [], ◌∷◌, ◌++◌, length, get_or, take, sym, ap, ◌∙◌, arith}
 use Rattle.std.proofs.lemmas.List.{append-nil, append_assoc, length_push, get_or_at, take_at, get_or-take}
 use Rattle.reader.specs.declared.outline.Outline.{Outline}
-use Rattle.table.specs.Syntax.{Node, Table, node_at}
+use Rattle.table.specs.Syntax.{Table, node_at}
 use Rattle.table.specs.Spelling.{KeepsLimits}
 use Rattle.table.specs.Decoding.{table_of}
 use Rattle.table.specs.Access.{Described}

@@ -1,5 +1,5 @@
 -- What an admitted table is known to be, from the fact that it is: each part holds in one way only, or is found again.
-use Rattle.std.proofs.Common.{◌≡◌, ℕ, ◌+◌, ◌<◌, ◌≤◌, Bool, true, false, List, [], ◌∷◌, length, get_or, take, is_some, Some, None, Option, unwrap_or, sym, refl, ap, ◌∙◌, subst, arith}
+use Rattle.std.proofs.Common.{◌≡◌, ℕ, ◌+◌, ◌<◌, ◌≤◌, Bool, true, List, [], ◌∷◌, length, get_or, take, is_some, Some, None, Option, unwrap_or, ap, subst, arith}
 use mathlib.Core.Logic.{∥∥₁_elim}
 use denote.Struct.Props.{props}
 use Rattle.std.specs.List.{AllByRecursion as All}
@@ -20,7 +20,7 @@ use Rattle.schedule.specs.Need.{needs}
 use Rattle.schedule.specs.Placed.{sequence}
 use Rattle.schedule.proofs.Unique.{order_exists}
 use Rattle.admission.specs.declared.found.Plan.{Plan}
-use Rattle.admission.specs.Keeps.{KeepsNodeShape, KeepsShape}
+use Rattle.admission.specs.Keeps.{KeepsNodeShape}
 use Rattle.admission.specs.Verdict.{node_order}
 use Rattle.admission.specs.Admission.{no_places, Plans}
 use Rattle.admission.specs.Planned.{Planned}

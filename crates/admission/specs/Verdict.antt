@@ -1,5 +1,5 @@
 -- The verdict on a table: the first fault, node by node.
-use Rattle.std.specs.Prelude.{ℕ, zero, suc, Bool, cond, List, length, take, is_some, Some, None, Option, nat_le, slice_index}
+use Rattle.std.specs.Prelude.{ℕ, zero, suc, cond, List, take, is_some, Some, None, Option, nat_le, slice_index}
 use Rattle.std.specs.Option.{option_map}
 use Rattle.opset.specs.Meaning.{Meaning}
 use Rattle.reader.specs.declared.faults.Site.{Site}

@@ -6,9 +6,8 @@ use Rattle.words.specs.declared.kinds.Clock.{Clock}
 use Rattle.words.specs.declared.kinds.Clock.TheVariants.{Base, On}
 use Rattle.words.specs.declared.kinds.Ports.{Ports}
 use Rattle.reader.specs.declared.faults.ReadFault.{ReadFault}
-use Rattle.reader.specs.declared.faults.ReadFault.TheVariants.{Length, Kind, Spare, Set, Count, Number}
+use Rattle.reader.specs.declared.faults.ReadFault.TheVariants.{Kind, Spare, Set, Count, Number}
 use Rattle.reader.specs.declared.faults.Site.{Site}
-use Rattle.reader.specs.declared.outline.Outline.{Outline}
 use Rattle.reader.specs.declared.scan.Expect.{Expect}
 use Rattle.reader.specs.declared.scan.Expect.TheVariants.{Head, Node, Variables, Equation, Literal, Operands, Gives}
 use Rattle.reader.specs.declared.scan.Scan.{Scan}

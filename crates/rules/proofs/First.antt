@@ -1,6 +1,6 @@
 -- The first failure of a test: the steps of a loop that looks for it, and what it says.
-use Rattle.std.proofs.Common.{◌≡◌, ℕ, zero, suc, ◌+◌, ◌<◌, ◌≤◌, Bool, true, false, cond, ◌⊎◌, Some, None, Option, sym, refl, ap, ◌∙◌, inl, inr, add-one, arith}
-use Rattle.rules.specs.First.{or_else, first_bad}
+use Rattle.std.proofs.Common.{◌≡◌, ℕ, zero, suc, ◌+◌, ◌<◌, Bool, true, false, ◌⊎◌, Some, None, refl, inl, inr, add-one, arith}
+use Rattle.rules.specs.First.{first_bad}
 
 split : (i n : ℕ) → i < suc n → (i < n) ⊎ (i ≡ n)
 split i n h = search arith

@@ -1,3 +1,2 @@
 // The rules of types, clocks and definitions.
 #![tactic(auto)]
-

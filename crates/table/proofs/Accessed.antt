@@ -1,26 +1,25 @@
 -- The parts of a table, as the outline finds them in the words.
-use Rattle.std.proofs.Common.{◌≡◌, ℕ, zero, suc, ◌+◌, ◌*◌, ◌<◌, ◌≤◌, true, false, cond, eqb, ltb, List, [], ◌∷◌, ◌++◌, map, length, get_or, take, Some, None, Option, sym, refl, ap, ◌∙◌, subst, suc-le-suc, arith, le-ltb, lt-ltb}
+use Rattle.std.proofs.Common.{◌≡◌, ℕ, zero, suc, ◌+◌, ◌*◌, ◌<◌, ◌≤◌, List, [], ◌∷◌, map, length, get_or, take, Some, None, Option, sym, refl, ap, ◌∙◌, subst, suc-le-suc, arith, le-ltb, lt-ltb}
 use Rattle.std.proofs.lemmas.List.{length-append, length-map, length-take-le, get_or-map, get_or-append-add, get_or_append_left, get_or_past, get_or-take}
 use Rattle.std.specs.List.{AllByRecursion as All}
 use Rattle.words.specs.declared.kinds.Clock.TheVariants.{Base}
 use Rattle.words.specs.declared.kinds.Literal.{Literal}
 use Rattle.words.specs.declared.kinds.Operand.{Operand}
 use Rattle.words.specs.declared.kinds.Operand.TheVariants.{Take, Literal as Constant}
-use Rattle.words.specs.declared.kinds.Variable.{Variable}
 use Rattle.words.specs.declared.kinds.Word.{Word}
 use Rattle.words.specs.declared.kinds.Word.TheVariants.{Head, Node as Open, Variable as Declare, Operate, Sample, Merge, Choose, Delay, Call, Operand as With, Give, End}
 use Rattle.words.specs.Bits.{field, kind_of}
-use Rattle.words.specs.Format.{encoded, restart_bits, ports_in, variable_in, literal_in, operand_in, restart_in, decoded_as, WordFits, RestartFits}
+use Rattle.words.specs.Format.{encoded, ports_in, variable_in, operand_in, restart_in, RestartFits}
 use Rattle.words.proofs.Format.{words_stand, small_restart}
 use Rattle.reader.specs.declared.outline.Outline.{Outline}
 use Rattle.table.specs.declared.drawn.Drawn.{Drawn}
 use Rattle.table.specs.declared.drawn.Drawn.TheVariants as drawn
-use Rattle.table.specs.Syntax.{Equation, operate, sample, merge, choose, delay, call, Node, Table, none, node_at, variable_at, variable_count, equation_at}
-use Rattle.table.specs.Spelling.{equation_words, ports_of, nodes_words, spelled, VariableKeeps, OperandKeeps, EquationKeeps, NodeKeeps, KeepsLimits, node_place, head_place, Outlines}
+use Rattle.table.specs.Syntax.{Equation, operate, sample, merge, choose, delay, call, Table, none, node_at, variable_at, variable_count, equation_at}
+use Rattle.table.specs.Spelling.{equation_words, ports_of, nodes_words, VariableKeeps, OperandKeeps, EquationKeeps, NodeKeeps, node_place, head_place}
 use Rattle.table.specs.Decoding.{table_of}
 use Rattle.table.specs.Access.{Described, operands_at, gives_at, Draws, drawn_as, drawn_at}
-use Rattle.table.proofs.Decoded.{operand_fits, give_fits, variable_fits, restart_fits_lem}
-use Rattle.table.proofs.Places.{Parted, parted_word, parted_within, node_parted, variables_parted, equation_parted, ports_back, variable_back, operand_back, literal_back}
+use Rattle.table.proofs.Decoded.{operand_fits, variable_fits, restart_fits_lem}
+use Rattle.table.proofs.Places.{Parted, parted_word, node_parted, variables_parted, equation_parted, ports_back, variable_back, operand_back, literal_back}
 
 all_at : {X : Type 0} (P : X → Type 0) (xs : List X) (i : ℕ) (d : X) → All P xs → i < length xs → P (get_or xs i d)
 all_at P [] i d a h = absurd (omega arith)

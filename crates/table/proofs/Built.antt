@@ -1,14 +1,13 @@
 -- An equation put together from its head, its operands and its gives.
-use Rattle.std.proofs.Common.{◌≡◌, ℕ, suc, ◌+◌, ◌<◌, ◌≤◌, Bool, true, false, cond, ltb, List, [], ◌∷◌, ◌++◌, map, length, get_or, Some, None, Option, sym, refl, ap, ◌∙◌, subst, arith, ltb-false, ltb-true}
+use Rattle.std.proofs.Common.{◌≡◌, ℕ, ◌<◌, ◌≤◌, Bool, true, false, cond, ltb, List, [], ◌∷◌, ◌++◌, map, length, Some, None, sym, refl, arith, ltb-false, ltb-true}
 use Rattle.std.proofs.lemmas.List.{append-nil}
 use Rattle.std.specs.List.{AllByRecursion as All}
-use Rattle.words.specs.declared.kinds.Literal.{Literal}
 use Rattle.words.specs.declared.kinds.Operand.{Operand}
 use Rattle.words.specs.declared.kinds.Operand.TheVariants.{Take, Literal as Constant}
 use Rattle.words.specs.declared.kinds.Word.{Word}
 use Rattle.words.specs.declared.kinds.Word.TheVariants.{Head, Node as Open, Variable as Declare, Operate, Sample, Merge, Choose, Delay, Call, Operand as With, Give, End}
 use Rattle.table.specs.Syntax.{Equation, operate, sample, merge, choose, delay, call, Table, node_at}
-use Rattle.table.specs.Spelling.{optional, equation_words, LiteralKeeps, OperandKeeps, SecondKeeps, RestartKeeps, EquationKeeps}
+use Rattle.table.specs.Spelling.{equation_words, OperandKeeps, RestartKeeps, EquationKeeps}
 
 -- how many operands and gives stand behind a head
 abbrev pub arity : Table → Word → ℕ

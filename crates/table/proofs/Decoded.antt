@@ -1,5 +1,5 @@
 -- The table that is read back from the words that spell it.
-use Rattle.std.proofs.Common.{◌≡◌, ℕ, zero, suc, ◌+◌, ◌-◌, ◌^◌, ◌<◌, ◌≤◌, true, false, cond, ltb, List, [], ◌∷◌, ◌++◌, map, length, take, Some, None, Option, sym, refl, ap, ◌∙◌, suc-le-suc, arith, le-ltb, lt-ltb}
+use Rattle.std.proofs.Common.{◌≡◌, ℕ, zero, suc, ◌<◌, ◌≤◌, List, [], ◌∷◌, ◌++◌, map, length, take, Some, None, Option, refl, ap, ◌∙◌, suc-le-suc, arith, le-ltb, lt-ltb}
 use Rattle.std.proofs.lemmas.List.{append_assoc, length-take-le}
 use Rattle.std.specs.List.{AllByRecursion as All}
 use Rattle.words.specs.declared.kinds.Clock.{Clock}
@@ -8,12 +8,12 @@ use Rattle.words.specs.declared.kinds.Operand.{Operand}
 use Rattle.words.specs.declared.kinds.Operand.TheVariants.{Take, Literal as Constant}
 use Rattle.words.specs.declared.kinds.Variable.{Variable}
 use Rattle.words.specs.declared.kinds.Word.{Word}
-use Rattle.words.specs.declared.kinds.Word.TheVariants.{Head, Node as Open, Variable as Declare, Operate, Sample, Merge, Choose, Delay, Call, Operand as With, Give, End}
-use Rattle.words.specs.Format.{encoded, ClockFits, RestartFits, OperandFits, WordFits}
+use Rattle.words.specs.declared.kinds.Word.TheVariants.{Head, Node as Open, Variable as Declare, Call, Operand as With, Give, End}
+use Rattle.words.specs.Format.{encoded, ClockFits, RestartFits, WordFits}
 use Rattle.words.proofs.Format.{words_stand}
 use Rattle.table.specs.Syntax.{Equation, operate, sample, merge, choose, delay, call, Node, Table, node_at, variable_count}
-use Rattle.table.specs.Spelling.{equation_words, equations_words, ports_of, node_words, nodes_words, spelled, ClockKeeps, VariableKeeps, OperandKeeps, SecondKeeps, RestartKeeps, EquationKeeps, NodeKeeps, KeepsLimits}
-use Rattle.table.specs.Decoding.{also, said, operands_in, gives_in, operand_at, equations_in, variables_in, nodes_in, table_of}
+use Rattle.table.specs.Spelling.{equation_words, equations_words, ports_of, node_words, nodes_words, spelled, ClockKeeps, VariableKeeps, OperandKeeps, RestartKeeps, EquationKeeps, NodeKeeps, KeepsLimits}
+use Rattle.table.specs.Decoding.{also, said, operands_in, gives_in, equations_in, variables_in, nodes_in, table_of}
 
 -- Every word of a table within the limits fits its fields.
 all_append : {X : Type 0} (P : X → Type 0) (xs ys : List X) → All P xs → All P ys → All P (xs ++ ys)

@@ -1,15 +1,15 @@
 -- One more word, and what it completes.
-use Rattle.std.proofs.Common.{◌≡◌, ℕ, suc, ◌+◌, ◌-◌, ◌*◌, ◌<◌, ◌≤◌, List, [], ◌∷◌, ◌++◌, map, length, get_or, take, sym, refl, ap, ◌∙◌, subst, arith, below_more}
-use Rattle.std.proofs.lemmas.List.{append-nil, append_assoc, map-append, map_push, length_push, length-append, take-append-le, get_or_append_left, get_or_push, take_at}
+use Rattle.std.proofs.Common.{◌≡◌, ℕ, ◌+◌, ◌<◌, ◌≤◌, List, [], ◌∷◌, ◌++◌, map, length, take, sym, refl, ap, ◌∙◌, subst, arith, below_more}
+use Rattle.std.proofs.lemmas.List.{append-nil, append_assoc, map-append, map_push, length_push, take-append-le, get_or_append_left, get_or_push, take_at}
 use Rattle.std.specs.List.{AllByRecursion as All}
 use Rattle.words.specs.declared.kinds.Word.{Word}
-use Rattle.words.specs.declared.kinds.Word.TheVariants.{Head, Node as Open, Variable as Declare, Operand as With, Give, End}
+use Rattle.words.specs.declared.kinds.Word.TheVariants.{Head, Node as Open, Variable as Declare, End}
 use Rattle.words.specs.Format.{encoded}
 use Rattle.reader.specs.declared.outline.Outline.{Outline}
 use Rattle.table.specs.Syntax.{Equation, Node, Table, none, node_at, variable_count}
 use Rattle.table.specs.Spelling.{equation_words, equations_words, ports_of, node_words, nodes_words, spelled, NodeKeeps, node_place, head_place, OutlinesNode}
-use Rattle.table.proofs.Built.{arity, give_count, Complete, built, Built}
-use Rattle.table.proofs.Tracked.{Finished, Fresh, Begun, open_words, InNode, After, BetweenNodes, InEquations, InEquation}
+use Rattle.table.proofs.Built.{built}
+use Rattle.table.proofs.Tracked.{Begun, open_words, InNode, After, BetweenNodes, InEquations, InEquation}
 
 pub all_push : {X : Type 0} (P : X → Type 0) (xs : List X) (x : X) → All P xs → P x → All P (xs ++ x ∷ [])
 all_push P [] x a p = (p, tt)

@@ -1,19 +1,19 @@
 -- The head of an equation, or a node's end, takes what is known one word on.
-use Rattle.std.proofs.Common.{◌≡◌, ℕ, zero, suc, ◌+◌, ◌-◌, ◌*◌, ◌^◌, ◌<◌, ◌≤◌, Bool, true, false, cond, ◌&&◌, ◌||◌, eqb, ltb, leb, ◌≢◌, List, [], ◌∷◌, ◌++◌, map, length, get_or, take, set, Some, None, Ok, Err, Option, sym, refl, ap, ◌∙◌, subst, arith, below_more, ltb-true, eq-eqb, leb-true}
-use Rattle.std.proofs.lemmas.List.{append-nil, length-map, length-append, length-set, take_all, get_or-set_same, get_or-set_other}
+use Rattle.std.proofs.Common.{◌≡◌, ℕ, zero, suc, ◌+◌, ◌*◌, ◌<◌, ◌≤◌, Bool, true, false, cond, ◌&&◌, ◌||◌, eqb, ltb, ◌≢◌, List, [], ◌∷◌, ◌++◌, map, length, get_or, set, Some, None, Ok, Option, sym, refl, ap, ◌∙◌, subst, arith, below_more, ltb-true, eq-eqb, leb-true}
+use Rattle.std.proofs.lemmas.List.{length-map, length-append, length-set, take_all, get_or-set_same, get_or-set_other}
 use Rattle.words.specs.Bits.{field, kind_of, is_kind}
 use Rattle.words.specs.Format.{encoded, decoded_as, restart_in, spare_zero}
 use Rattle.words.specs.declared.kinds.Word.{Word}
-use Rattle.words.specs.declared.kinds.Word.TheVariants.{Head, Node as Open, Variable as Declare, Operate, Sample, Merge, Choose, Delay, Call, Operand as With, Give, End}
+use Rattle.words.specs.declared.kinds.Word.TheVariants.{Variable as Declare, Operate, Sample, Merge, Choose, Delay, Call, End}
 use Rattle.reader.specs.declared.outline.Outline.{Outline}
 use Rattle.reader.specs.declared.scan.Expect.{Expect}
 use Rattle.reader.specs.declared.scan.Expect.TheVariants.{Head as Due-head, Node as Due-node, Variables, Equation as Due-equation, Literal as Due-literal, Operands, Gives}
 use Rattle.reader.specs.declared.scan.Scan.{Scan}
-use Rattle.reader.specs.Scanning.{Fed, current, site_of, tested, expecting, restart_fits, numbers_fit, behind, equations_read, begun, is_head, equation_head, equation_word}
-use Rattle.table.specs.Syntax.{Node, Table, node_at, variable_count}
-use Rattle.table.specs.Spelling.{equations_words, nodes_words, spelled, ports_of, RestartKeeps, NodeKeeps, node_place, head_place, OutlinesNode}
+use Rattle.reader.specs.Scanning.{current, site_of, tested, expecting, restart_fits, numbers_fit, behind, equations_read, begun, is_head, equation_head, equation_word}
+use Rattle.table.specs.Syntax.{Node, Table, node_at}
+use Rattle.table.specs.Spelling.{equations_words, spelled, RestartKeeps, head_place}
 use Rattle.table.proofs.Built.{arity, give_count, HeadKeeps, DelayStarts}
-use Rattle.table.proofs.Tracked.{Sized, Finished, Fresh, Begun, open_words, InNode, After, begun_words, BetweenNodes, InEquations, InEquation, InOperands, InLiteral, TrackedBy, Tracked}
+use Rattle.table.proofs.Tracked.{Finished, Begun, open_words, InNode, After, InEquations, TrackedBy, Tracked}
 use Rattle.table.proofs.Growing.{grown, close}
 use Rattle.table.proofs.Steps.{passed, and_both, onto, spelled_by, spelled_length}
 

@@ -1,23 +1,18 @@
 -- What stands where in the words of a table.
-use Rattle.std.proofs.Common.{◌≡◌, ℕ, zero, suc, ◌+◌, ◌*◌, ◌^◌, ◌<◌, ◌≤◌, true, false, cond, ltb, List, [], ◌∷◌, ◌++◌, map, length, get_or, take, drop, Some, None, Option, sym, refl, ap, ◌∙◌, subst, suc-le-suc, arith, le-ltb, lt-ltb}
-use Rattle.std.proofs.lemmas.List.{append_assoc, length-append, length-map, length-take-le, take-append-drop, get_or-map, get_or-append-add, get_or_append_left, get_or_default}
-use Rattle.std.specs.List.{AllByRecursion as All}
+use Rattle.std.proofs.Common.{◌≡◌, ℕ, zero, suc, ◌+◌, ◌<◌, ◌≤◌, List, [], ◌∷◌, ◌++◌, map, length, get_or, take, drop, sym, refl, ap, ◌∙◌, arith}
+use Rattle.std.proofs.lemmas.List.{append_assoc, length-append, length-map, get_or-map, get_or-append-add, get_or_append_left}
 use Rattle.words.specs.declared.kinds.Literal.{Literal}
 use Rattle.words.specs.declared.kinds.Operand.{Operand}
 use Rattle.words.specs.declared.kinds.Operand.TheVariants.{Take, Literal as Constant}
 use Rattle.words.specs.declared.kinds.Ports.{Ports}
 use Rattle.words.specs.declared.kinds.Variable.{Variable}
 use Rattle.words.specs.declared.kinds.Word.{Word}
-use Rattle.words.specs.declared.kinds.Word.TheVariants.{Head, Node as Open, Variable as Declare, Operate, Sample, Merge, Choose, Delay, Call, Operand as With, Give, End}
+use Rattle.words.specs.declared.kinds.Word.TheVariants.{Head, Node as Open, Variable as Declare, Operand as With, End}
 use Rattle.words.specs.Bits.{field, kind_of}
-use Rattle.words.specs.Format.{encoded, decoded, ports_in, variable_in, literal_in, operand_in, WordFits}
-use Rattle.words.proofs.Format.{words_stand, small_clock, small_restart}
-use Rattle.reader.specs.declared.outline.Outline.{Outline}
-use Rattle.table.specs.Syntax.{Equation, Node, Table, node_at, variable_at, variable_count, equation_at, an_equation}
-use Rattle.table.specs.Spelling.{equation_words, equations_words, ports_of, node_words, nodes_words, spelled, VariableKeeps, OperandKeeps, EquationKeeps, NodeKeeps, KeepsLimits, node_place, head_place, Outlines}
-use Rattle.table.specs.Decoding.{table_of}
-use Rattle.table.specs.Access.{Described}
-use Rattle.table.proofs.Decoded.{operand_fits, give_fits, variable_fits}
+use Rattle.words.specs.Format.{encoded, ports_in, variable_in, literal_in, operand_in, WordFits}
+use Rattle.words.proofs.Format.{words_stand, small_clock}
+use Rattle.table.specs.Syntax.{Equation, Table, node_at, equation_at, an_equation}
+use Rattle.table.specs.Spelling.{equation_words, equations_words, ports_of, node_words, nodes_words, node_place, head_place}
 
 -- What is read from the word that spells it.
 pub ports_back : (p : Ports) → WordFits (Open p) → ports_in (encoded (Open p)) ≡ p

@@ -2,17 +2,16 @@
 use Rattle.std.proofs.Common.{◌≡◌, ℕ, ◌+◌, ◌^◌, ◌<◌, ◌≤◌, Bool, true, false, cond, ◌||◌, eqb, ltb, List, [], ◌∷◌, ◌++◌, length, Ok, Err, Result, sym, refl, ap, ◌∙◌, subst, arith, ltb-false, ltb-true}
 use Rattle.std.proofs.lemmas.List.{append-nil, append_assoc, length_push}
 use Rattle.std.specs.List.{AllByRecursion as All}
-use Rattle.reader.specs.declared.faults.ReadFault.{ReadFault}
 use Rattle.reader.specs.declared.faults.ReadFault.TheVariants.{Length, Kind}
 use Rattle.reader.specs.declared.outline.Outline.{Outline}
 use Rattle.reader.specs.declared.scan.Expect.{Expect}
 use Rattle.reader.specs.declared.scan.Expect.TheVariants.{Head as Due-head, Node as Due-node, Variables, Equation as Due-equation, Literal as Due-literal, Operands, Gives}
 use Rattle.reader.specs.declared.scan.Scan.{Scan}
 use Rattle.reader.specs.Scanning.{Fed, feed_by, feed_of, may_end, may_end_by, site_of, start}
-use Rattle.reader.specs.Whole.{Read, and_go, scanned, scan_of}
+use Rattle.reader.specs.Whole.{and_go, scanned, scan_of}
 use Rattle.table.specs.Syntax.{Table}
 use Rattle.table.specs.Spelling.{spelled, KeepsLimits, Outlines}
-use Rattle.table.proofs.Tracked.{BetweenNodes, TrackedBy, Tracked}
+use Rattle.table.proofs.Tracked.{TrackedBy, Tracked}
 use Rattle.table.proofs.Steps.{step_head, step_node, step_variable, step_literal, step_operand, step_give}
 use Rattle.table.proofs.Heads.{step_equation}
 

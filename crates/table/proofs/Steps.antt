@@ -1,9 +1,9 @@
 -- A word that passes its tests takes what is known one word on.
-use Rattle.std.proofs.Common.{◌≡◌, ℕ, suc, ◌+◌, ◌-◌, ◌*◌, ◌^◌, ◌<◌, ◌≤◌, Bool, true, false, cond, ◌&&◌, ◌||◌, eqb, ltb, leb, ◌≢◌, List, [], ◌∷◌, ◌++◌, map, length, get_or, take, set, replicate, Some, None, Ok, Err, Option, Result, sym, refl, ap, ◌∙◌, subst, arith, ltb-false, ltb-true, eqb-true, leb-true}
+use Rattle.std.proofs.Common.{◌≡◌, ℕ, ◌+◌, ◌-◌, ◌^◌, ◌<◌, ◌≤◌, Bool, true, false, cond, ◌&&◌, eqb, ltb, ◌≢◌, List, [], ◌∷◌, ◌++◌, map, length, get_or, set, replicate, Some, Ok, Err, Result, sym, refl, ap, ◌∙◌, subst, arith, ltb-false, ltb-true, eqb-true, leb-true}
 use Rattle.std.proofs.lemmas.List.{append-nil, append_assoc, map_push, length_push, length-map, length-set, length-replicate, get_or-replicate, get_or-set_same, get_or-set_other}
 use Rattle.std.specs.List.{AllByRecursion as All}
 use Rattle.words.specs.Bits.{field, kind_of, is_kind}
-use Rattle.words.specs.Format.{encoded, decoded_as, clock_in, ports_in, restart_in, variable_in, literal_in, spare_zero}
+use Rattle.words.specs.Format.{encoded, decoded_as, clock_in, ports_in, variable_in, literal_in, spare_zero}
 use Rattle.words.specs.declared.kinds.Clock.{Clock}
 use Rattle.words.specs.declared.kinds.Clock.TheVariants.{Base, On}
 use Rattle.words.specs.declared.kinds.Operand.{Operand}
@@ -13,18 +13,16 @@ use Rattle.words.specs.declared.kinds.Variable.{Variable}
 use Rattle.words.specs.declared.kinds.Word.{Word}
 use Rattle.words.specs.declared.kinds.Word.TheVariants.{Head, Node as Open, Variable as Declare, Operate, Sample, Merge, Choose, Delay, Call, Operand as With, Give, End}
 use Rattle.words.proofs.Format.{words_stand}
-use Rattle.reader.specs.declared.faults.ReadFault.{ReadFault}
 use Rattle.reader.specs.declared.faults.Site.{Site}
 use Rattle.reader.specs.declared.outline.Outline.{Outline}
-use Rattle.reader.specs.declared.scan.Expect.{Expect}
-use Rattle.reader.specs.declared.scan.Expect.TheVariants.{Head as Due-head, Node as Due-node, Variables, Equation as Due-equation, Literal as Due-literal, Operands, Gives}
+use Rattle.reader.specs.declared.scan.Expect.TheVariants.{Node as Due-node, Variables, Equation as Due-equation, Operands, Gives}
 use Rattle.reader.specs.declared.scan.Scan.{Scan}
-use Rattle.reader.specs.Scanning.{Fed, start, current, site_of, tested, expecting, counts_fit, opened, sampler_fits, onward, head_word, node_word, variable_word, literal_word, operand_word, give_word}
-use Rattle.table.specs.Syntax.{Equation, Node, Table, node_at, variable_count}
-use Rattle.table.specs.Spelling.{nodes_words, spelled, ports_of, ClockKeeps, VariableKeeps, LiteralKeeps, OperandKeeps, NodeKeeps, node_place, OutlinesNode}
-use Rattle.table.proofs.Built.{arity, give_count, DelayStarts, LiteralFirst}
-use Rattle.table.proofs.Tracked.{Sized, Finished, Fresh, Begun, open_words, InNode, After, begun_words, BetweenNodes, InVariables, InEquations, InEquation, InOperands, InGives, InLiteral, TrackedBy, Tracked}
-use Rattle.table.proofs.Growing.{all_push, grown, finish, close}
+use Rattle.reader.specs.Scanning.{Fed, start, site_of, tested, expecting, counts_fit, opened, sampler_fits, onward, head_word, node_word, variable_word, literal_word, operand_word, give_word}
+use Rattle.table.specs.Syntax.{Node, Table}
+use Rattle.table.specs.Spelling.{nodes_words, spelled, ports_of, ClockKeeps, VariableKeeps, LiteralKeeps, OperandKeeps, node_place}
+use Rattle.table.proofs.Built.{DelayStarts}
+use Rattle.table.proofs.Tracked.{Finished, Begun, open_words, After, begun_words, BetweenNodes, InVariables, InEquations, InEquation, InOperands, InGives, InLiteral, TrackedBy, Tracked}
+use Rattle.table.proofs.Growing.{all_push, grown, finish}
 
 -- What a word that is not refused has passed, and where it leads.
 pub record Passed (kind spare set count number : Bool) (next t : Scan) : Type 0 where

@@ -1,19 +1,19 @@
 -- What is known of the words read so far, by what is due next.
-use Rattle.std.proofs.Common.{◌≡◌, ℕ, suc, ◌+◌, ◌*◌, ◌<◌, ◌≤◌, List, [], ◌∷◌, ◌++◌, map, length, get_or, take, Option}
+use Rattle.std.proofs.Common.{◌≡◌, ℕ, ◌+◌, ◌*◌, ◌<◌, ◌≤◌, List, [], ◌∷◌, ◌++◌, map, length, get_or, take}
 use Rattle.std.specs.List.{AllByRecursion as All}
 use Rattle.words.specs.declared.kinds.Operand.{Operand}
 use Rattle.words.specs.declared.kinds.Ports.{Ports}
 use Rattle.words.specs.declared.kinds.Variable.{Variable}
 use Rattle.words.specs.declared.kinds.Word.{Word}
-use Rattle.words.specs.declared.kinds.Word.TheVariants.{Head, Node as Open, Variable as Declare, Delay, Operand as With, Give, End}
+use Rattle.words.specs.declared.kinds.Word.TheVariants.{Node as Open, Variable as Declare, Delay, Operand as With, Give}
 use Rattle.words.specs.Format.{encoded}
 use Rattle.reader.specs.declared.outline.Outline.{Outline}
 use Rattle.reader.specs.declared.scan.Expect.{Expect}
 use Rattle.reader.specs.declared.scan.Expect.TheVariants.{Head as Due-head, Node as Due-node, Variables, Equation as Due-equation, Literal as Due-literal, Operands, Gives}
 use Rattle.reader.specs.declared.scan.Scan.{Scan}
 use Rattle.reader.specs.Scanning.{start}
-use Rattle.table.specs.Syntax.{Equation, Node, Table, node_at, variable_count}
-use Rattle.table.specs.Spelling.{equation_words, equations_words, ports_of, node_words, nodes_words, spelled, VariableKeeps, OperandKeeps, EquationKeeps, NodeKeeps, node_place, head_place, OutlinesNode}
+use Rattle.table.specs.Syntax.{Node, Table, node_at, variable_count}
+use Rattle.table.specs.Spelling.{equations_words, ports_of, spelled, VariableKeeps, OperandKeeps, EquationKeeps, NodeKeeps, node_place, head_place, OutlinesNode}
 use Rattle.table.proofs.Built.{arity, give_count, HeadKeeps, DelayStarts}
 
 -- the arrays have their sizes

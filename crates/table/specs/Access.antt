@@ -1,5 +1,5 @@
 -- A table that is read, and its parts as they stand in its words.
-use Rattle.std.specs.Prelude.{◌≡◌, ℕ, zero, suc, ◌+◌, ◌<◌, cond, List, [], ◌∷◌, Some, None, Option, ◌==◌, nat_lt, slice_index}
+use Rattle.std.specs.Prelude.{◌≡◌, ℕ, zero, suc, ◌+◌, ◌<◌, cond, List, [], ◌∷◌, Some, None, ◌==◌, nat_lt, slice_index}
 use Rattle.words.specs.declared.kinds.Operand.{Operand}
 use Rattle.words.specs.Bits.{field, kind_of}
 use Rattle.words.specs.Format.{literal_in, operand_in, restart_in}

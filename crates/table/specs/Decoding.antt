@@ -1,5 +1,5 @@
 -- The table that words spell, as a function of the words.
-use Rattle.std.specs.Prelude.{ℕ, ◌+◌, Bool, cond, List, [], ◌∷◌, ◌++◌, Some, None, Option, nat_lt, slice_index_or}
+use Rattle.std.specs.Prelude.{ℕ, cond, List, [], ◌∷◌, Some, None, Option, nat_lt, slice_index_or}
 use Rattle.words.specs.declared.kinds.Literal.{Literal}
 use Rattle.words.specs.declared.kinds.Operand.{Operand}
 use Rattle.words.specs.declared.kinds.Operand.TheVariants.{Take, Literal as Constant}
@@ -7,7 +7,7 @@ use Rattle.words.specs.declared.kinds.Variable.{Variable}
 use Rattle.words.specs.declared.kinds.Word.{Word}
 use Rattle.words.specs.declared.kinds.Word.TheVariants.{Head, Node as Open, Variable as Declare, Operate, Sample, Merge, Choose, Delay, Call, Operand as With, Give, End}
 use Rattle.words.specs.Format.{decoded}
-use Rattle.table.specs.Syntax.{Equation, operate, sample, merge, choose, delay, call, Node, Table}
+use Rattle.table.specs.Syntax.{Equation, operate, sample, merge, choose, delay, call, Table}
 
 -- what the words say, those aside that say nothing
 abbrev pub also : Option Word → List Word → List Word

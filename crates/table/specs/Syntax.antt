@@ -1,5 +1,5 @@
 -- Tables of nodes as data: what the drawing tool draws.
-use Rattle.std.specs.Prelude.{ℕ, ◌+◌, List, [], length, Option, slice_index_or}
+use Rattle.std.specs.Prelude.{ℕ, List, [], length, Option, slice_index_or}
 use Rattle.words.specs.declared.kinds.Clock.TheVariants.{Base}
 use Rattle.words.specs.declared.kinds.Literal.{Literal}
 use Rattle.words.specs.declared.kinds.Operand.{Operand}

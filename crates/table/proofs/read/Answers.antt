@@ -1,4 +1,4 @@
-use Rattle.std.proofs.Common.{◌≡◌, ℕ, ◌^◌, ◌<◌, get_or, sym, ap, ◌∙◌, subst, arith}
+use Rattle.std.proofs.Common.{ℕ, ◌^◌, ◌<◌, get_or, sym, ap, ◌∙◌, subst, arith}
 use Rattle.reader.specs.Whole.{Read, scan_of}
 use Rattle.table.specs.Reading.{Reads}
 use Rattle.table.proofs.Whole.{reads_stand}
