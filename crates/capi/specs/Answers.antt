@@ -1,5 +1,5 @@
 -- What reading a table answers, in numbers.
-use Rattle.std.specs.Prelude.{ℕ, cond, ◌||◌, List, length, set, Ok, Err, ◌==◌, nat_lt, slice_set}
+use Rattle.std.specs.Prelude.{ℕ, cond, ◌||◌, List, length, Ok, Err, ◌==◌, nat_lt, slice_set}
 use Rattle.reader.specs.declared.faults.Layer.{Layer}
 use Rattle.reader.specs.declared.faults.Layer.TheVariants.{Reading, Rules, Order, Size}
 use Rattle.reader.specs.declared.faults.Report.{Report}

@@ -1,5 +1,5 @@
 -- The numbers of a script, from the bytes of their text: a word in eight hex digits, and a count in decimal.
-use Rattle.std.specs.Prelude.{ℕ, ◌+◌, ◌-◌, ◌*◌, Bool, true, false, cond, ◌&&◌, List, [], ◌∷◌, length, Some, None, Option, ◌==◌, nat_le}
+use Rattle.std.specs.Prelude.{ℕ, ◌+◌, ◌-◌, ◌*◌, cond, ◌&&◌, List, [], ◌∷◌, length, Some, None, Option, ◌==◌, nat_le}
 
 -- 0 to 9, A to F and a to f
 abbrev pub hex_digit : ℕ → Option ℕ

@@ -1,6 +1,6 @@
 use Rattle.std.proofs.Common.{◌≡◌, ℕ, ◌+◌, ◌*◌, ◌^◌, ◌<◌, ◌≤◌, true, ◌&&◌, leb, length, sym, ◌∙◌, arith, rules}
 use Rattle.std.proofs.lemmas.Bool.{le-leb}
-use Rattle.console.specs.Numerals.{decimal_digit, decimal_number, spelled}
+use Rattle.console.specs.Numerals.{decimal_digit}
 use Rattle.console.proofs.Digits.{goes_on, no_digit, ended, below_power, below_most}
 use Rattle.console.proofs.numerals.decimal_number.Goals as goal
 

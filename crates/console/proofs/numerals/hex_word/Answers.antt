@@ -1,5 +1,5 @@
 use Rattle.std.proofs.Common.{◌≡◌, ◌+◌, ◌*◌, ◌^◌, ◌<◌, true, eqb, length, sym, ◌∙◌, arith, eq-eqb}
-use Rattle.console.specs.Numerals.{hex_digit, hex_word, spelled}
+use Rattle.console.specs.Numerals.{hex_digit}
 use Rattle.console.proofs.Digits.{goes_on, no_digit, ended, below_power, below_most}
 use Rattle.console.proofs.numerals.hex_word.Goals as goal
 
