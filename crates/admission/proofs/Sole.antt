@@ -2,7 +2,7 @@
 use Rattle.std.proofs.Common.{◌≡◌, ℕ, ◌+◌, ◌<◌, ◌≤◌, Bool, true, List, [], ◌∷◌, length, get_or, take, is_some, Some, None, Option, unwrap_or, ap, subst, arith}
 use mathlib.Core.Logic.{∥∥₁_elim}
 use denote.Struct.Props.{props}
-use Rattle.std.specs.List.{AllByRecursion as All}
+use Rattle.std.specs.List.{AllByRecursion}
 use Rattle.words.specs.declared.kinds.Clock.{Clock}
 use Rattle.words.specs.declared.kinds.Clock.TheVariants.{Base, On}
 use Rattle.words.specs.declared.kinds.Literal.{Literal}
@@ -25,7 +25,7 @@ use Rattle.admission.specs.Verdict.{node_order}
 use Rattle.admission.specs.Admission.{no_places, Plans}
 use Rattle.admission.specs.Planned.{Planned}
 
-all_sole : {X : Type 0} (P : X → Type 0) → ((x : X) → IsProp (P x)) → (xs : List X) → IsProp (All P xs)
+all_sole : {X : Type 0} (P : X → Type 0) → ((x : X) → IsProp (P x)) → (xs : List X) → IsProp (AllByRecursion P xs)
 all_sole P f [] = hlevel props
 all_sole P f (x ∷ xs) = λ p q i. (f x p.0 q.0 i, all_sole P f xs p.1 q.1 i)
 
@@ -64,8 +64,8 @@ equation_sole earlier v (choose s a b x) = hlevel (props, operand_sole)
 equation_sole earlier v (delay l a x) = hlevel (props, operand_sole, literal_sole)
 equation_sole earlier v (call g r ops gs) =
     let node : IsProp (g < length earlier) = hlevel props in
-    let taken : IsProp (All (OperandKeeps v) ops) = all_sole (OperandKeeps v) (operand_sole v) ops in
-    let given : IsProp (All (λ x. x < v) gs) = all_sole (λ x. x < v) (λ x. hlevel props) gs in
+    let taken : IsProp (AllByRecursion (OperandKeeps v) ops) = all_sole (OperandKeeps v) (operand_sole v) ops in
+    let given : IsProp (AllByRecursion (λ x. x < v) gs) = all_sole (λ x. x < v) (λ x. hlevel props) gs in
     let inputs : IsProp (length ops ≡ (node_at earlier g).inputs) = hlevel props in
     let outputs : IsProp (length gs ≡ (node_at earlier g).outputs) = hlevel props in
     λ p q i. (
@@ -83,9 +83,9 @@ node_sole earlier N p q =
     let outputs : IsProp ((1 ≤ N.outputs) × (N.outputs ≤ 16)) = hlevel props in
     let count : IsProp ((N.inputs + N.outputs ≤ variable_count N) × (variable_count N ≤ 64)) = hlevel props in
     let most : IsProp (length N.equations ≤ 64) = hlevel props in
-    let variables : IsProp (All (VariableKeeps (variable_count N)) N.variables) =
+    let variables : IsProp (AllByRecursion (VariableKeeps (variable_count N)) N.variables) =
     all_sole (VariableKeeps (variable_count N)) (variable_sole (variable_count N)) N.variables in
-    let equations : IsProp (All (EquationKeeps earlier (variable_count N)) N.equations) =
+    let equations : IsProp (AllByRecursion (EquationKeeps earlier (variable_count N)) N.equations) =
     all_sole (EquationKeeps earlier (variable_count N)) (equation_sole earlier (variable_count N)) N.equations in
     λ i. record {
       inputs = inputs p.inputs q.inputs i;

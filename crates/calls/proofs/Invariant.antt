@@ -1,6 +1,6 @@
 -- What holds of a run between its calls: its cells hold the memory of the machine after the history, and the outputs of the latest instant.
 use Rattle.std.proofs.Common.{◌≡◌, ℕ, zero, suc, ◌+◌, ◌-◌, ◌<◌, ◌≤◌, Bool, true, false, cond, ◌⊎◌, List, [], ◌∷◌, ◌++◌, length, get_or, is_some, Some, None, Option, sym, refl, ap, ◌∙◌, subst, inl, inr, arith}
-use Rattle.std.specs.List.{AllByRecursion as All, slice_get}
+use Rattle.std.specs.List.{AllByRecursion, slice_get}
 use Rattle.opset.specs.Meaning.{Meaning, Laws}
 use Rattle.table.specs.Syntax.{Node, Table, node_at, variable_count}
 use Rattle.rules.specs.Types.{type_of}
@@ -26,7 +26,7 @@ use Rattle.calls.proofs.Rows.{row_at_lem}
 use Rattle.calls.proofs.Inputs.{Offered, FilledIn, filled_in, row_fits, input_valued}
 
 -- one event more
-fits_more : {V : Type 0} (m : Meaning V) (N : Node) (h : History V) (e : Event V) → All (EventFits m N) h → EventFits m N e → All (EventFits m N) (h ++ e ∷ [])
+fits_more : {V : Type 0} (m : Meaning V) (N : Node) (h : History V) (e : Event V) → AllByRecursion (EventFits m N) h → EventFits m N e → AllByRecursion (EventFits m N) (h ++ e ∷ [])
 fits_more m N [] e a f = (f, tt)
 fits_more m N (x ∷ h) e a f = (a.0, fits_more m N h e a.1 f)
 

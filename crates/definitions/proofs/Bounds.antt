@@ -1,6 +1,6 @@
 -- What a described table keeps its numbers below.
 use Rattle.std.proofs.Common.{◌≡◌, ℕ, zero, suc, ◌+◌, ◌<◌, ◌≤◌, eqb, List, [], ◌∷◌, ◌++◌, map, length, get_or, take, refl, ap, ◌∙◌, subst, inl, inr, arith}
-use Rattle.std.specs.List.{AllByRecursion as All}
+use Rattle.std.specs.List.{AllByRecursion}
 use Rattle.std.proofs.lemmas.List.{length-map, length-take-le, get_or-take, get_or_past}
 use Rattle.std.proofs.ByRecursion.{All-get_or}
 use Rattle.std.proofs.lemmas.Bool.{cases_Bool, cases_lt}
@@ -20,7 +20,7 @@ times_few x (y ∷ l) =
     let r = times_few x l in
     elim (cases_Bool (eqb x y)) [ inl e ↦ rw e (omega arith) | inr e ↦ rw e (omega arith) ]
 
-defined_small : (P : Table) (v : ℕ) (E : Equation) → EquationKeeps P v E → All (λ x. x < v) (defined E)
+defined_small : (P : Table) (v : ℕ) (E : Equation) → EquationKeeps P v E → AllByRecursion (λ x. x < v) (defined E)
 defined_small P v (operate op a b x) k = (k.2, tt)
 defined_small P v (sample a x) k = (k.1, tt)
 defined_small P v (merge s a b x) k = (k.3, tt)
@@ -72,7 +72,7 @@ module _ (ws : List ℕ) (o : Outline) (d : Described ws o) where
     pub one_small : (e : ℕ) → e < equation_count (node_at (table_of ws) k) → (x : ℕ) → defined (equation_at (node_at (table_of ws) k) e) ≡ x ∷ [] → x < 64
     one_small e l x q =
         let N = node_at (table_of ws) k in
-        let P : List ℕ → Type 0 = λ xs. All (λ y. y < variable_count N) xs in
+        let P : List ℕ → Type 0 = λ xs. AllByRecursion (λ y. y < variable_count N) xs in
         let a = subst P q (defined_small _ _ (equation_at N e) (equation_keeps e l)) in
         omega (arith, a.0, variables_few)
 

@@ -1,6 +1,6 @@
 -- A block's words can be run with no test of a word or a cell.
 use Rattle.std.proofs.Common.{◌≡◌, ℕ, zero, suc, ◌+◌, ◌<◌, ◌≤◌, Bool, true, ◌&&◌, ltb, leb, List, [], ◌∷◌, ◌++◌, length, Some, None, Option, refl, ap, ◌∙◌, arith}
-use Rattle.std.specs.List.{AllByRecursion as All}
+use Rattle.std.specs.List.{AllByRecursion}
 use Rattle.std.proofs.lemmas.Bool.{lt-ltb, le-ltb, le-leb, and_from, cond-true, cond-false}
 use Rattle.words.specs.declared.kinds.Operand.{Operand}
 use Rattle.words.specs.declared.kinds.Operand.TheVariants.{Take, Literal as Constant}
@@ -19,11 +19,11 @@ operand_fine_lem : (size v : ℕ) (a : Operand) → v ≤ size → OperandKeeps 
 operand_fine_lem size v (Take x) l h = lt-ltb x size (omega arith)
 operand_fine_lem size v (Constant c) l h = refl
 
-operands_fine_lem : (size v : ℕ) (ops : List Operand) → v ≤ size → All (OperandKeeps v) ops → operands_fine size ops ≡ true
+operands_fine_lem : (size v : ℕ) (ops : List Operand) → v ≤ size → AllByRecursion (OperandKeeps v) ops → operands_fine size ops ≡ true
 operands_fine_lem size v [] l h = refl
 operands_fine_lem size v (a ∷ ops) l h = and_from _ _ (operand_fine_lem size v a l h.0) (operands_fine_lem size v ops l h.1)
 
-gives_fine_lem : (size v : ℕ) (gs : List ℕ) → v ≤ size → All (λ x. x < v) gs → gives_fine size gs ≡ true
+gives_fine_lem : (size v : ℕ) (gs : List ℕ) → v ≤ size → AllByRecursion (λ x. x < v) gs → gives_fine size gs ≡ true
 gives_fine_lem size v [] l h = refl
 gives_fine_lem size v (x ∷ gs) l h = and_from _ _ (lt-ltb x size (omega (arith, h.0))) (gives_fine_lem size v gs l h.1)
 
@@ -75,14 +75,14 @@ module _ (ws : List ℕ) (need : ℕ → ℕ) (k v : ℕ) (agrees : (g : ℕ) �
   fine_action (step g off ops gs) h more p f = fine_step g off ops gs h more p f
 
   -- a test that fails passes over what it guards
-  fine_tests : (ts : List Test) → All (TestKeeps v) ts → (xs more : List CodeWord) → fine ws k 0 (xs ++ more) ≡ true → fine ws k 0 more ≡ true
+  fine_tests : (ts : List Test) → AllByRecursion (TestKeeps v) ts → (xs more : List CodeWord) → fine ws k 0 (xs ++ more) ≡ true → fine ws k 0 more ≡ true
       → fine ws k 0 ((tests_words ts (length xs) ++ xs) ++ more) ≡ true
   fine_tests [] h xs more f f' = f
   fine_tests (t ∷ ts) h xs more f f' =
       and_from _ _ (below t.variable h.0) (and_from _ _ (fine_tests ts h.1 xs more f f')
       (fine_passed (tests_words ts (length xs) ++ xs) more (length ts + length xs) (guarded_length ts xs) ∙ f'))
 
-  pub fine_block : (ss : List Statement) → All (StatementKeeps need k v) ss → (more : List CodeWord) → fine ws k 0 (block_words ss ++ more) ≡ true
+  pub fine_block : (ss : List Statement) → AllByRecursion (StatementKeeps need k v) ss → (more : List CodeWord) → fine ws k 0 (block_words ss ++ more) ≡ true
   fine_block [] h more = refl
   fine_block (s ∷ ss) h more =
       let rest : List CodeWord = block_words ss ++ more in

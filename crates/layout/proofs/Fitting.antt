@@ -1,6 +1,6 @@
 -- Each number in a block's words fits its field.
 use Rattle.std.proofs.Common.{ℕ, ◌+◌, ◌<◌, ◌≤◌, List, [], ◌∷◌, map, length, Some, None, Option, arith}
-use Rattle.std.specs.List.{AllByRecursion as All}
+use Rattle.std.specs.List.{AllByRecursion}
 use Rattle.std.proofs.lemmas.List.{length-append}
 use Rattle.std.proofs.ByRecursion.{All-append, All-map, All-weaker}
 use Rattle.words.specs.declared.kinds.Operand.{Operand}
@@ -19,12 +19,12 @@ operand_fits : (v : ℕ) (a : Operand) → v ≤ 64 → OperandKeeps v a → Ope
 operand_fits v (Take x) l h = omega arith
 operand_fits v (Constant c) l h = (h.ty, h.payload)
 
-second_fits : (v op : ℕ) (b : Option Operand) → v ≤ 64 → SecondKeeps v op b → (op < 256) × All CodeWordFits (second b)
+second_fits : (v op : ℕ) (b : Option Operand) → v ≤ 64 → SecondKeeps v op b → (op < 256) × AllByRecursion CodeWordFits (second b)
 second_fits v op None l h = (omega arith, tt)
 second_fits v op (Some b) l h = (h.1, (operand_fits v b l h.2, tt))
 
 module _ (need : ℕ → ℕ) (k v : ℕ) (few : v ≤ 64) (node : k < 32) (cells : need k ≤ 4096) where
-  action_fits : (a : Action) → ActionKeeps need k v a → All CodeWordFits (action_words a)
+  action_fits : (a : Action) → ActionKeeps need k v a → AllByRecursion CodeWordFits (action_words a)
   action_fits (assign op a b x) h =
       let s = second_fits v op b few h.1 in
       ((s.0, omega (arith, h.2)), (operand_fits v a few h.0, s.1))
@@ -42,11 +42,11 @@ module _ (need : ℕ → ℕ) (k v : ℕ) (few : v ≤ 64) (node : k < 32) (cell
   )
 
   -- a distance is less than what the statement takes
-  tests_fit : (ts : List Test) (n : ℕ) → All (TestKeeps v) ts → length ts + n ≤ 16384 → All CodeWordFits (tests_words ts n)
+  tests_fit : (ts : List Test) (n : ℕ) → AllByRecursion (TestKeeps v) ts → length ts + n ≤ 16384 → AllByRecursion CodeWordFits (tests_words ts n)
   tests_fit [] n h l = tt
   tests_fit (t ∷ ts) n h l = ((omega (arith, h.0), omega arith), tests_fit ts n h.1 (omega arith))
 
-  statement_fits : (s : Statement) → StatementKeeps need k v s → length (statement_words s) ≤ 16384 → All CodeWordFits (statement_words s)
+  statement_fits : (s : Statement) → StatementKeeps need k v s → length (statement_words s) ≤ 16384 → AllByRecursion CodeWordFits (statement_words s)
   statement_fits s h l =
       let ws : List CodeWord = action_words s.action in
       All-append CodeWordFits (tests_words s.tests (length ws)) ws
@@ -54,14 +54,14 @@ module _ (need : ℕ → ℕ) (k v : ℕ) (few : v ≤ 64) (node : k < 32) (cell
       (omega (arith, guarded_length s.tests ws)))
       (action_fits s.action h.action)
 
-  statements_fit : (ss : List Statement) → All (StatementKeeps need k v) ss → length (statements_words ss) ≤ 16384 → All CodeWordFits (statements_words ss)
+  statements_fit : (ss : List Statement) → AllByRecursion (StatementKeeps need k v) ss → length (statements_words ss) ≤ 16384 → AllByRecursion CodeWordFits (statements_words ss)
   statements_fit [] h l = tt
   statements_fit (s ∷ ss) h l =
       let e = length-append (statement_words s) (statements_words ss) in
       All-append CodeWordFits (statement_words s) (statements_words ss)
       (statement_fits s h.0 (omega arith)) (statements_fit ss h.1 (omega arith))
 
-pub block_fits : (need : ℕ → ℕ) (k v : ℕ) (ss : List Statement) → BlockKeeps need k v ss → length (block_words ss) ≤ 16384 → All CodeWordFits (block_words ss)
+pub block_fits : (need : ℕ → ℕ) (k v : ℕ) (ss : List Statement) → BlockKeeps need k v ss → length (block_words ss) ≤ 16384 → AllByRecursion CodeWordFits (block_words ss)
 block_fits need k v ss b l =
     All-append CodeWordFits (statements_words ss) (End ∷ [])
     (statements_fit need k v b.few b.node b.cells ss b.each (omega (arith, block_length ss))) (tt, tt)

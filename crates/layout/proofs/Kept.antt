@@ -1,6 +1,6 @@
 -- What statements of a node keep by the limits of its table: v is how many variables the node has, and `need` what each node needs.
 use Rattle.std.proofs.Common.{ℕ, ◌+◌, ◌<◌, ◌≤◌, List, length}
-use Rattle.std.specs.List.{AllByRecursion as All}
+use Rattle.std.specs.List.{AllByRecursion}
 use Rattle.table.specs.Spelling.{OperandKeeps, SecondKeeps}
 use Rattle.code.specs.Statements.{Test, Action, assign, select, reset, step, Statement}
 
@@ -16,10 +16,10 @@ ActionKeeps need k v (assign op a b x) = OperandKeeps v a × SecondKeeps v op b 
 ActionKeeps need k v (select s a b x) = (s < v) × OperandKeeps v a × OperandKeeps v b × (x < v)
 ActionKeeps need k v (reset g off) = CallKeeps need k g off
 ActionKeeps need k v (step g off ops gs) =
-    CallKeeps need k g off × All (OperandKeeps v) ops × All (λ x. x < v) gs × (length ops + length gs ≤ need g)
+    CallKeeps need k g off × AllByRecursion (OperandKeeps v) ops × AllByRecursion (λ x. x < v) gs × (length ops + length gs ≤ need g)
 
 pub record StatementKeeps (need : ℕ → ℕ) (k v : ℕ) (s : Statement) : Type 0 where
-  pub tests : All (TestKeeps v) s.tests
+  pub tests : AllByRecursion (TestKeeps v) s.tests
   pub action : ActionKeeps need k v s.action
 
 -- the statements of a block, whose node has at most 64 variables, which its segment holds
@@ -28,4 +28,4 @@ pub record BlockKeeps (need : ℕ → ℕ) (k v : ℕ) (ss : List Statement) : T
   pub room : v ≤ need k
   pub node : k < 32
   pub cells : need k ≤ 4096
-  pub each : All (StatementKeeps need k v) ss
+  pub each : AllByRecursion (StatementKeeps need k v) ss

@@ -1,7 +1,7 @@
 -- A run of a block's words does what the block's statements do.
 use Rattle.std.proofs.Common.{◌≡◌, ℕ, zero, suc, ◌+◌, Bool, true, false, cond, ◌&&◌, List, [], ◌∷◌, ◌++◌, length, Some, None, Option, refl, ap, ◌∙◌, arith}
 use Rattle.std.specs.Option.{option_map}
-use Rattle.std.specs.List.{AllByRecursion as All, slice_get}
+use Rattle.std.specs.List.{AllByRecursion, slice_get}
 use Rattle.std.proofs.lemmas.Bool.{lt-ltb, le-ltb}
 use Rattle.words.specs.declared.kinds.Operand.{Operand}
 use Rattle.opset.specs.Meaning.{Meaning}
@@ -70,7 +70,7 @@ module _ {V : Type 0} (m : Meaning V) (B : Blocks V) where
       go false ih = passed (tests_words ts (length ws) ++ ws) more (length ts + length ws) cells (guarded_length ts ws)
 
   -- what stands behind the end does not matter
-  pub walk_block : (need : ℕ → ℕ) (k v : ℕ) (ss : List Statement) → All (StatementKeeps need k v) ss → (more : List CodeWord) (cells : List V)
+  pub walk_block : (need : ℕ → ℕ) (k v : ℕ) (ss : List Statement) → AllByRecursion (StatementKeeps need k v) ss → (more : List CodeWord) (cells : List V)
       → walk m B 0 (block_words ss ++ more) cells ≡ all_executed m B ss cells
   walk_block need k v [] h more cells = refl
   walk_block need k v (s ∷ ss) h more cells =

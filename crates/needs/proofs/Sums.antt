@@ -1,6 +1,6 @@
 -- What the calls of a node need, one equation after another.
 use Rattle.std.proofs.Common.{◌≡◌, ℕ, ◌+◌, ◌<◌, List, [], ◌∷◌, ◌++◌, length, get_or, take, refl, ap, ◌∙◌, arith}
-use Rattle.std.specs.List.{AllByRecursion as All}
+use Rattle.std.specs.List.{AllByRecursion}
 use Rattle.std.proofs.lemmas.List.{length-take-le, take_more}
 use Rattle.table.specs.Syntax.{Equation, operate, sample, merge, choose, delay, call, Table, node_at, variable_count, an_equation}
 use Rattle.table.specs.Spelling.{EquationKeeps, KeepsLimits}
@@ -22,7 +22,7 @@ call_same a b P v k (choose s x y z) n f q = refl
 call_same a b P v k (delay l x z) n f q = refl
 call_same a b P v k (call g r ops gs) n f q = f g (omega (arith, q.0, n))
 
-pub calls_same : (a b : List ℕ) (P : Table) (v k : ℕ) (es : List Equation) → length P ≡ k → ((g : ℕ) → g < k → get_or a g 0 ≡ get_or b g 0) → All (EquationKeeps P v) es → calls_need a es ≡ calls_need b es
+pub calls_same : (a b : List ℕ) (P : Table) (v k : ℕ) (es : List Equation) → length P ≡ k → ((g : ℕ) → g < k → get_or a g 0 ≡ get_or b g 0) → AllByRecursion (EquationKeeps P v) es → calls_need a es ≡ calls_need b es
 calls_same a b P v k [] n f q = refl
 calls_same a b P v k (E ∷ es) n f q = omega (arith, call_same a b P v k E n f q.0, calls_same a b P v k es n f q.1)
 

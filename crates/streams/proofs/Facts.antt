@@ -1,6 +1,6 @@
 -- What the rules say of a node's variables and equations, by number.
 use Rattle.std.proofs.Common.{◌≡◌, ℕ, ◌+◌, ◌<◌, ◌≤◌, Bool, true, false, cond, not, ◌&&◌, ◌||◌, eqb, ltb, List, [], ◌∷◌, ◌++◌, length, get_or, Some, None, Option, sym, refl, ap, ◌∙◌, subst, inl, inr, arith}
-use Rattle.std.specs.List.{AllByRecursion as All}
+use Rattle.std.specs.List.{AllByRecursion}
 use Rattle.std.proofs.lemmas.Bool.{eqb-true, and_parts, cases_Bool, cases_lt, both_ways, lt-ltb}
 use Rattle.std.proofs.lemmas.List.{get_or_past}
 use Rattle.std.proofs.ByRecursion.{All-get_or}
@@ -28,7 +28,7 @@ second_in_lem : (v op : ℕ) (b : Option Operand) → SecondKeeps v op b → (z 
 second_in_lem v op None k z i = absurd (both_ways false refl i)
 second_in_lem v op (Some b) k z i = operand_in v b k.2 z i
 
-operands_in_lem : (v : ℕ) (l : List Operand) → All (OperandKeeps v) l → (z : ℕ) → is_in z (operands_read l) ≡ true → z < v
+operands_in_lem : (v : ℕ) (l : List Operand) → AllByRecursion (OperandKeeps v) l → (z : ℕ) → is_in z (operands_read l) ≡ true → z < v
 operands_in_lem v [] k z i = absurd (both_ways false refl i)
 operands_in_lem v (a ∷ l) k z i =
     elim (in_cases z (operand_reads a) (operands_read l) i) [ inl j ↦ operand_in v a k.0 z j | inr j ↦ operands_in_lem v l k.1 z j ]
@@ -37,7 +37,7 @@ restart_in_lem : (v : ℕ) (r : Option ℕ) → RestartKeeps v r → (z : ℕ) �
 restart_in_lem v None k z i = absurd (both_ways false refl i)
 restart_in_lem v (Some r) k z i = rw (in_one z r i) k
 
-all_in : (v : ℕ) (l : List ℕ) → All (λ x. x < v) l → (z : ℕ) → is_in z l ≡ true → z < v
+all_in : (v : ℕ) (l : List ℕ) → AllByRecursion (λ x. x < v) l → (z : ℕ) → is_in z l ≡ true → z < v
 all_in v [] k z i = absurd (both_ways false refl i)
 all_in v (x ∷ l) k z i =
     elim (in_cases z (x ∷ []) l i) [ inl j ↦ rw (in_one z x j) k.0 | inr j ↦ all_in v l k.1 z j ]

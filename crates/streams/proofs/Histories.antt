@@ -1,6 +1,6 @@
 -- Over a history the machine shows the masked streams.
 use Rattle.std.proofs.Common.{◌≡◌, ℕ, zero, suc, ◌<◌, ◌≤◌, List, [], ◌∷◌, length, Some, None, Option, sym, refl, ◌∙◌, arith}
-use Rattle.std.specs.List.{AllByRecursion as All}
+use Rattle.std.specs.List.{AllByRecursion}
 use Rattle.opset.specs.Meaning.{Meaning}
 use Rattle.table.specs.Syntax.{Node, Table, node_at}
 use Rattle.admission.specs.Keeps.{KeepsRules}
@@ -24,7 +24,7 @@ count_grows (idle ∷ h) zero = omega arith
 count_grows (idle ∷ h) (suc i) = count_grows h i
 count_grows (restart ∷ h) i = let q = count_grows h i in omega arith
 
-pub rows_long : {V : Type 0} (N : Node) (h : History V) → All (EventLong N) h → RowsLong N (row_at h)
+pub rows_long : {V : Type 0} (N : Node) (h : History V) → AllByRecursion (EventLong N) h → RowsLong N (row_at h)
 rows_long N [] k i = tt
 rows_long N (row vs ∷ h) k zero = k.0
 rows_long N (row vs ∷ h) k (suc i) = rows_long N h k.1 i
@@ -32,13 +32,13 @@ rows_long N (idle ∷ h) k zero = tt
 rows_long N (idle ∷ h) k (suc i) = rows_long N h k.1 i
 rows_long N (restart ∷ h) k i = rows_long N h k.1 i
 
-pub fits_long : {V : Type 0} (m : Meaning V) (N : Node) (h : History V) → All (EventFits m N) h → All (EventLong N) h
+pub fits_long : {V : Type 0} (m : Meaning V) (N : Node) (h : History V) → AllByRecursion (EventFits m N) h → AllByRecursion (EventLong N) h
 fits_long m N [] k = tt
 fits_long m N (row vs ∷ h) k = (k.0.long, fits_long m N h k.1)
 fits_long m N (idle ∷ h) k = (tt, fits_long m N h k.1)
 fits_long m N (restart ∷ h) k = (tt, fits_long m N h k.1)
 
-pub rows_typed : {V : Type 0} (m : Meaning V) (N : Node) (h : History V) → All (EventFits m N) h → (i : ℕ) → RowTyped m N (row_at h i)
+pub rows_typed : {V : Type 0} (m : Meaning V) (N : Node) (h : History V) → AllByRecursion (EventFits m N) h → (i : ℕ) → RowTyped m N (row_at h i)
 rows_typed m N [] k i = tt
 rows_typed m N (row vs ∷ h) k zero = k.0
 rows_typed m N (row vs ∷ h) k (suc i) = rows_typed m N h k.1 i
@@ -84,7 +84,7 @@ module _ {V : Type 0} (c : Machine V) (idles : Idles c) where
 
   -- what holds of the start and lasts from instant to instant holds of each memory
   tree_all : (P : Tree V → Type 0) (N : Node) → P c.start → ((M : Tree V) (vs : Option (List V)) → P M → RowLong N vs → P (c.next M vs))
-      → (h : History V) → All (EventLong N) h → (t : Tree V) → P t → (i : ℕ) → P (tree_at c t h i)
+      → (h : History V) → AllByRecursion (EventLong N) h → (t : Tree V) → P t → (i : ℕ) → P (tree_at c t h i)
   tree_all P N s n [] k t p i = p
   tree_all P N s n (row vs ∷ h) k t p zero = p
   tree_all P N s n (row vs ∷ h) k t p (suc i) = tree_all P N s n h k.1 (c.next t (Some vs)) (n t (Some vs) p k.0) i

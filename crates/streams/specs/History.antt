@@ -1,6 +1,6 @@
 -- Histories of a table's main node, and their masked streams. Assumes nothing.
 use Rattle.std.specs.Prelude.{◌≡◌, ℕ, zero, suc, ◌-◌, ◌<◌, true, List, [], ◌∷◌, length, Some, None, Option}
-use Rattle.std.specs.List.{AllByRecursion as All, slice_get}
+use Rattle.std.specs.List.{AllByRecursion, slice_get}
 use Rattle.opset.specs.Meaning.{Meaning}
 use Rattle.table.specs.Syntax.{Node, Table, node_at, variable_count}
 use Rattle.rules.specs.Types.{type_of}
@@ -83,8 +83,8 @@ EventFits m N restart = Unit {0}
 
 -- the rows of a history have a value for each of main's inputs
 abbrev pub HistoryLong : {V : Type 0} → Table → History V → Type 0
-HistoryLong T h = All (EventLong (node_at T (main T))) h
+HistoryLong T h = AllByRecursion (EventLong (node_at T (main T))) h
 
 -- and each of its type
 abbrev pub HistoryFits : {V : Type 0} → Meaning V → Table → History V → Type 0
-HistoryFits m T h = All (EventFits m (node_at T (main T))) h
+HistoryFits m T h = AllByRecursion (EventFits m (node_at T (main T))) h

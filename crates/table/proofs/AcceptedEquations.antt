@@ -1,6 +1,6 @@
 -- Words that the reader accepts: equations.
 use Rattle.std.proofs.Common.{◌≡◌, ℕ, suc, ◌+◌, ◌-◌, ◌^◌, ◌<◌, ◌≤◌, true, List, [], ◌∷◌, ◌++◌, map, length, get_or, Some, None, Option, sym, refl, ◌∙◌, arith}
-use Rattle.std.specs.List.{AllByRecursion as All}
+use Rattle.std.specs.List.{AllByRecursion}
 use Rattle.std.proofs.lemmas.List.{length-set, get_or-set_same, get_or-set_other, get_or_append_left, length_push, append_assoc}
 use Rattle.std.proofs.lemmas.Bool.{ne_eqb, le-leb, lt-ltb, le-ltb}
 use Rattle.words.specs.declared.kinds.Literal.{Literal}
@@ -98,7 +98,7 @@ module _ (own : ℕ) (earlier : Table) (N : Node) (m : length earlier < 32) (v :
       -- a head, and behind it only operands
       plain_read : (x : Word) (ops : List Operand) → WordFits x → 3 ≤ kind_of (encoded x) → kind_of (encoded x) ≤ 8
           → numbers_fit (state due.Equation v o) (encoded x) ≡ true → behind (state due.Equation v o) (encoded x) ≡ due.Operands (length ops) 0
-          → 0 < length ops → All (OperandKeeps v) ops → Good own due.Equation v o (x ∷ (map With ops ++ ws))
+          → 0 < length ops → AllByRecursion (OperandKeeps v) ops → Good own due.Equation v o (x ∷ (map With ops ++ ws))
       plain_read x ops f a b t d c k =
           head_read x (due.Operands (length ops) 0) (map With ops ++ ws) f a b t d (λ q s. operands_read_lem own 0 v q ops ws l c k (go q s))
 
@@ -181,7 +181,7 @@ module _ (own : ℕ) (earlier : Table) (N : Node) (m : length earlier < 32) (v :
           (λ q s. literal_read own v q c (With a ∷ ws) k.0 (operands_read_lem own 0 v q (a ∷ []) ws l (omega arith) (k.1, tt) (go q s)))
       equation_read (call g c ops xs) k = call_read g c ops xs k
 
-  pub equations_read_lem : (o : Outline) (es : List Equation) (ws : List Word) → Room (earlier ++ N ∷ []) (length es) o → All (EquationKeeps earlier v) es
+  pub equations_read_lem : (o : Outline) (es : List Equation) (ws : List Word) → Room (earlier ++ N ∷ []) (length es) o → AllByRecursion (EquationKeeps earlier v) es
       → ((q : Outline) → Room (earlier ++ N ∷ []) 0 q → Good own due.Equation v q ws) → Good own due.Equation v o (equations_words es ++ ws)
   equations_read_lem o [] ws r k go = go o r
   equations_read_lem o (e ∷ es) ws r k go =

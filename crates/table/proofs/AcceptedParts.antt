@@ -1,6 +1,6 @@
 -- Words that the reader accepts: operands, gives and variables, as many as are due.
 use Rattle.std.proofs.Common.{◌≡◌, ℕ, suc, ◌+◌, ◌-◌, ◌^◌, ◌<◌, ◌≤◌, true, false, cond, ltb, List, [], ◌∷◌, ◌++◌, map, length, is_ok, refl, arith}
-use Rattle.std.specs.List.{AllByRecursion as All}
+use Rattle.std.specs.List.{AllByRecursion}
 use Rattle.std.proofs.lemmas.Bool.{eq-eqb, lt-ltb}
 use Rattle.words.specs.declared.kinds.Clock.{Clock}
 use Rattle.words.specs.declared.kinds.Clock.TheVariants.{Base, On}
@@ -88,7 +88,7 @@ variable_read own v o x more ws l k go at =
 module _ {A : Type 0} (own v : ℕ) (o : Outline) (spell : A → Word) (Keeps : A → Type 0) (some next : ℕ → Expect)
     (fewer : (n : ℕ) → next (suc (suc n)) ≡ some (suc n))
     (one : (x : A) (n : ℕ) (ws : List Word) → Keeps x → Good own (next n) v o ws → Good own (some n) v o (spell x ∷ ws)) where
-  each_read : (xs : List A) (ws : List Word) → 0 < length xs → All Keeps xs
+  each_read : (xs : List A) (ws : List Word) → 0 < length xs → AllByRecursion Keeps xs
       → Good own (next 1) v o ws → Good own (some (length xs)) v o (map spell xs ++ ws)
   each_read [] ws l k go = absurd (omega arith)
   each_read (x ∷ []) ws l k go = one x 1 ws k.0 go
@@ -98,19 +98,19 @@ module _ {A : Type 0} (own v : ℕ) (o : Outline) (spell : A → Word) (Keeps : 
 one_fewer : (n : ℕ) → (ltb 1 (suc (suc n)) ≡ true) × (suc (suc n) - 1 ≡ suc n)
 one_fewer n = (lt-ltb 1 (suc (suc n)) (omega arith), omega arith)
 
-pub operands_read_lem : (own gives v : ℕ) (o : Outline) (ops : List Operand) (ws : List Word) → v ≤ 64 → 0 < length ops → All (OperandKeeps v) ops
+pub operands_read_lem : (own gives v : ℕ) (o : Outline) (ops : List Operand) (ws : List Word) → v ≤ 64 → 0 < length ops → AllByRecursion (OperandKeeps v) ops
     → Good own (onward 1 gives) v o ws → Good own (due.Operands (length ops) gives) v o (map With ops ++ ws)
 operands_read_lem own gives v o ops ws l =
     each_read own v o With (OperandKeeps v) (λ n. due.Operands n gives) (λ n. onward n gives)
     (λ n. rw ((one_fewer n).0, (one_fewer n).1)) (λ a n us. operand_read own gives v o a n us l) ops ws
 
-pub gives_read : (own v : ℕ) (o : Outline) (xs : List ℕ) (ws : List Word) → v ≤ 64 → 0 < length xs → All (λ x. x < v) xs
+pub gives_read : (own v : ℕ) (o : Outline) (xs : List ℕ) (ws : List Word) → v ≤ 64 → 0 < length xs → AllByRecursion (λ x. x < v) xs
     → Good own due.Equation v o ws → Good own (due.Gives (length xs)) v o (map Give xs ++ ws)
 gives_read own v o xs ws l =
     each_read own v o Give (λ x. x < v) due.Gives gives_left
     (λ n. rw ((one_fewer n).0, (one_fewer n).1)) (λ x n us. give_read own v o x n us l) xs ws
 
-pub variables_read : (own v : ℕ) (o : Outline) (xs : List Variable) (ws : List Word) → v ≤ 64 → 0 < length xs → All (VariableKeeps v) xs
+pub variables_read : (own v : ℕ) (o : Outline) (xs : List Variable) (ws : List Word) → v ≤ 64 → 0 < length xs → AllByRecursion (VariableKeeps v) xs
     → Good own due.Equation v o ws → Good own (due.Variables (length xs)) v o (map Declare xs ++ ws)
 variables_read own v o xs ws l =
     each_read own v o Declare (VariableKeeps v) due.Variables variables_left

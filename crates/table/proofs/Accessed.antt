@@ -1,7 +1,7 @@
 -- The parts of a table, as the outline finds them in the words.
 use Rattle.std.proofs.Common.{◌≡◌, ℕ, zero, suc, ◌+◌, ◌*◌, ◌<◌, ◌≤◌, List, [], ◌∷◌, map, length, get_or, take, Some, None, Option, sym, refl, ap, ◌∙◌, subst, suc-le-suc, arith, le-ltb, lt-ltb}
 use Rattle.std.proofs.lemmas.List.{length-append, length-map, length-take-le, get_or-map, get_or-append-add, get_or_append_left, get_or_past, get_or-take}
-use Rattle.std.specs.List.{AllByRecursion as All}
+use Rattle.std.specs.List.{AllByRecursion}
 use Rattle.words.specs.declared.kinds.Clock.TheVariants.{Base}
 use Rattle.words.specs.declared.kinds.Literal.{Literal}
 use Rattle.words.specs.declared.kinds.Operand.{Operand}
@@ -21,7 +21,7 @@ use Rattle.table.specs.Access.{Described, operands_at, gives_at, Draws, drawn_as
 use Rattle.table.proofs.Decoded.{operand_fits, variable_fits, restart_fits_lem}
 use Rattle.table.proofs.Places.{Parted, parted_word, node_parted, variables_parted, equation_parted, ports_back, variable_back, operand_back, literal_back}
 
-all_at : {X : Type 0} (P : X → Type 0) (xs : List X) (i : ℕ) (d : X) → All P xs → i < length xs → P (get_or xs i d)
+all_at : {X : Type 0} (P : X → Type 0) (xs : List X) (i : ℕ) (d : X) → AllByRecursion P xs → i < length xs → P (get_or xs i d)
 all_at P [] i d a h = absurd (omega arith)
 all_at P (x ∷ xs) zero d a h = a.0
 all_at P (x ∷ xs) (suc i) d a h = all_at P xs i d a.1 (omega arith)

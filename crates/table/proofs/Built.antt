@@ -1,7 +1,7 @@
 -- An equation put together from its head, its operands and its gives.
 use Rattle.std.proofs.Common.{◌≡◌, ℕ, ◌<◌, ◌≤◌, Bool, true, false, cond, ltb, List, [], ◌∷◌, ◌++◌, map, length, Some, None, sym, refl, arith, ltb-false, ltb-true}
 use Rattle.std.proofs.lemmas.List.{append-nil}
-use Rattle.std.specs.List.{AllByRecursion as All}
+use Rattle.std.specs.List.{AllByRecursion}
 use Rattle.words.specs.declared.kinds.Operand.{Operand}
 use Rattle.words.specs.declared.kinds.Operand.TheVariants.{Take, Literal as Constant}
 use Rattle.words.specs.declared.kinds.Word.{Word}
@@ -75,8 +75,8 @@ DelayStarts End l = Unit {0}
 
 pub record Complete (P : Table) (v : ℕ) (h : Word) (ops : List Operand) (gs : List ℕ) : Type 0 where
   pub head : HeadKeeps P v h
-  pub operands : All (OperandKeeps v) ops
-  pub gives : All (λ x. x < v) gs
+  pub operands : AllByRecursion (OperandKeeps v) ops
+  pub gives : AllByRecursion (λ x. x < v) gs
   pub operand_count : length ops ≡ arity P h
   pub give_count : length gs ≡ give_count P h
   pub literal : DelayStarts h ops
@@ -91,7 +91,7 @@ nothing : (gs : List ℕ) → length gs ≡ 0 → (ws : List Word) → ws ≡ ws
 nothing [] e ws = sym (append-nil ws)
 nothing (x ∷ gs) e ws = absurd (omega arith)
 
-operate_one : (P : Table) (v op x : ℕ) (ops : List Operand) (gs : List ℕ) → op < 128 → x < v → All (OperandKeeps v) ops
+operate_one : (P : Table) (v op x : ℕ) (ops : List Operand) (gs : List ℕ) → op < 128 → x < v → AllByRecursion (OperandKeeps v) ops
     → length ops ≡ 1 → length gs ≡ 0 → Built P v (Operate op x) ops gs
 operate_one P v op x [] gs o d k e f = absurd (omega arith)
 operate_one P v op x (a ∷ []) gs o d k e f = record {
@@ -101,7 +101,7 @@ operate_one P v op x (a ∷ []) gs o d k e f = record {
 }
 operate_one P v op x (a ∷ b ∷ l) gs o d k e f = absurd (omega arith)
 
-operate_two : (P : Table) (v op x : ℕ) (ops : List Operand) (gs : List ℕ) → 128 ≤ op → op < 256 → x < v → All (OperandKeeps v) ops
+operate_two : (P : Table) (v op x : ℕ) (ops : List Operand) (gs : List ℕ) → 128 ≤ op → op < 256 → x < v → AllByRecursion (OperandKeeps v) ops
     → length ops ≡ 2 → length gs ≡ 0 → Built P v (Operate op x) ops gs
 operate_two P v op x [] gs o m d k e f = absurd (omega arith)
 operate_two P v op x (a ∷ []) gs o m d k e f = absurd (omega arith)
@@ -112,12 +112,12 @@ operate_two P v op x (a ∷ b ∷ []) gs o m d k e f = record {
 }
 operate_two P v op x (a ∷ b ∷ c ∷ l) gs o m d k e f = absurd (omega arith)
 
-operate_by : (P : Table) (v op x : ℕ) (ops : List Operand) (gs : List ℕ) (one : Bool) → ltb op 128 ≡ one → op < 256 → x < v → All (OperandKeeps v) ops
+operate_by : (P : Table) (v op x : ℕ) (ops : List Operand) (gs : List ℕ) (one : Bool) → ltb op 128 ≡ one → op < 256 → x < v → AllByRecursion (OperandKeeps v) ops
     → length ops ≡ cond one 1 2 → length gs ≡ 0 → Built P v (Operate op x) ops gs
 operate_by P v op x ops gs true t m d k e f = operate_one P v op x ops gs (ltb-true op 128 t) d k e f
 operate_by P v op x ops gs false t m d k e f = operate_two P v op x ops gs (ltb-false op 128 t) m d k e f
 
-sample_built : (P : Table) (v x : ℕ) (ops : List Operand) (gs : List ℕ) → x < v → All (OperandKeeps v) ops
+sample_built : (P : Table) (v x : ℕ) (ops : List Operand) (gs : List ℕ) → x < v → AllByRecursion (OperandKeeps v) ops
     → length ops ≡ 1 → length gs ≡ 0 → Built P v (Sample x) ops gs
 sample_built P v x [] gs d k e f = absurd (omega arith)
 sample_built P v x (a ∷ []) gs d k e f = record {
@@ -127,7 +127,7 @@ sample_built P v x (a ∷ []) gs d k e f = record {
 }
 sample_built P v x (a ∷ b ∷ l) gs d k e f = absurd (omega arith)
 
-merge_built : (P : Table) (v s x : ℕ) (ops : List Operand) (gs : List ℕ) → s < v → x < v → All (OperandKeeps v) ops
+merge_built : (P : Table) (v s x : ℕ) (ops : List Operand) (gs : List ℕ) → s < v → x < v → AllByRecursion (OperandKeeps v) ops
     → length ops ≡ 2 → length gs ≡ 0 → Built P v (Merge s x) ops gs
 merge_built P v s x [] gs t d k e f = absurd (omega arith)
 merge_built P v s x (a ∷ []) gs t d k e f = absurd (omega arith)
@@ -138,7 +138,7 @@ merge_built P v s x (a ∷ b ∷ []) gs t d k e f = record {
 }
 merge_built P v s x (a ∷ b ∷ c ∷ l) gs t d k e f = absurd (omega arith)
 
-choose_built : (P : Table) (v s x : ℕ) (ops : List Operand) (gs : List ℕ) → s < v → x < v → All (OperandKeeps v) ops
+choose_built : (P : Table) (v s x : ℕ) (ops : List Operand) (gs : List ℕ) → s < v → x < v → AllByRecursion (OperandKeeps v) ops
     → length ops ≡ 2 → length gs ≡ 0 → Built P v (Choose s x) ops gs
 choose_built P v s x [] gs t d k e f = absurd (omega arith)
 choose_built P v s x (a ∷ []) gs t d k e f = absurd (omega arith)
@@ -149,7 +149,7 @@ choose_built P v s x (a ∷ b ∷ []) gs t d k e f = record {
 }
 choose_built P v s x (a ∷ b ∷ c ∷ l) gs t d k e f = absurd (omega arith)
 
-delay_built : (P : Table) (v x : ℕ) (ops : List Operand) (gs : List ℕ) → x < v → All (OperandKeeps v) ops
+delay_built : (P : Table) (v x : ℕ) (ops : List Operand) (gs : List ℕ) → x < v → AllByRecursion (OperandKeeps v) ops
     → length ops ≡ 2 → length gs ≡ 0 → LiteralFirst ops → Built P v (Delay x) ops gs
 delay_built P v x [] gs d k e f i = absurd (omega arith)
 delay_built P v x (a ∷ []) gs d k e f i = absurd (omega arith)

@@ -1,7 +1,7 @@
 -- The table that is read back from the words that spell it.
 use Rattle.std.proofs.Common.{◌≡◌, ℕ, zero, suc, ◌<◌, ◌≤◌, List, [], ◌∷◌, ◌++◌, map, length, take, Some, None, Option, refl, ap, ◌∙◌, suc-le-suc, arith, le-ltb, lt-ltb}
 use Rattle.std.proofs.lemmas.List.{append_assoc, length-take-le}
-use Rattle.std.specs.List.{AllByRecursion as All}
+use Rattle.std.specs.List.{AllByRecursion}
 use Rattle.words.specs.declared.kinds.Clock.{Clock}
 use Rattle.words.specs.declared.kinds.Clock.TheVariants.{Base, On}
 use Rattle.words.specs.declared.kinds.Operand.{Operand}
@@ -16,11 +16,11 @@ use Rattle.table.specs.Spelling.{equation_words, equations_words, ports_of, node
 use Rattle.table.specs.Decoding.{also, said, operands_in, gives_in, equations_in, variables_in, nodes_in, table_of}
 
 -- Every word of a table within the limits fits its fields.
-all_append : {X : Type 0} (P : X → Type 0) (xs ys : List X) → All P xs → All P ys → All P (xs ++ ys)
+all_append : {X : Type 0} (P : X → Type 0) (xs ys : List X) → AllByRecursion P xs → AllByRecursion P ys → AllByRecursion P (xs ++ ys)
 all_append P [] ys a b = b
 all_append P (x ∷ xs) ys a b = (a.0, all_append P xs ys a.1 b)
 
-all_map : {X Y : Type 0} (P : X → Type 0) (Q : Y → Type 0) (f : X → Y) → ((x : X) → P x → Q (f x)) → (xs : List X) → All P xs → All Q (map f xs)
+all_map : {X Y : Type 0} (P : X → Type 0) (Q : Y → Type 0) (f : X → Y) → ((x : X) → P x → Q (f x)) → (xs : List X) → AllByRecursion P xs → AllByRecursion Q (map f xs)
 all_map P Q f h [] a = tt
 all_map P Q f h (x ∷ xs) a = (h x a.0, all_map P Q f h xs a.1)
 
@@ -43,11 +43,11 @@ pub variable_fits : (v : ℕ) → v ≤ 64 → (x : Variable) → VariableKeeps 
 variable_fits v h x k = (k.ty, clock_fits v x.clock h k.clock)
 
 module _ (P : Table) (v : ℕ) (h : v ≤ 64) (l : length P ≤ 32) where
-  operate_fits : (op : ℕ) (a : Operand) (b : Option Operand) (x : ℕ) → EquationKeeps P v (operate op a b x) → All WordFits (equation_words (operate op a b x))
+  operate_fits : (op : ℕ) (a : Operand) (b : Option Operand) (x : ℕ) → EquationKeeps P v (operate op a b x) → AllByRecursion WordFits (equation_words (operate op a b x))
   operate_fits op a None x k = ((omega (arith, k.1), omega (arith, k.2)), (operand_fits v h a k.0, tt))
   operate_fits op a (Some b) x k = ((omega (arith, k.1.1), omega (arith, k.2)), (operand_fits v h a k.0, (operand_fits v h b k.1.2, tt)))
 
-  equation_fits : (e : Equation) → EquationKeeps P v e → All WordFits (equation_words e)
+  equation_fits : (e : Equation) → EquationKeeps P v e → AllByRecursion WordFits (equation_words e)
   equation_fits (operate op a b x) k = operate_fits op a b x k
   equation_fits (sample a x) k = (omega (arith, k.1), (operand_fits v h a k.0, tt))
   equation_fits (merge s a b x) k = ((omega (arith, k.0), omega (arith, k.3)), (operand_fits v h a k.1, (operand_fits v h b k.2, tt)))
@@ -58,11 +58,11 @@ module _ (P : Table) (v : ℕ) (h : v ≤ 64) (l : length P ≤ 32) where
     all_append WordFits (map With ops) (map Give gs) (all_map (OperandKeeps v) WordFits With (operand_fits v h) ops k.2) (all_map (λ x. x < v) WordFits Give (give_fits v h) gs k.3),
   )
 
-  equations_fit : (es : List Equation) → All (EquationKeeps P v) es → All WordFits (equations_words es)
+  equations_fit : (es : List Equation) → AllByRecursion (EquationKeeps P v) es → AllByRecursion WordFits (equations_words es)
   equations_fit [] k = tt
   equations_fit (e ∷ es) k = all_append WordFits (equation_words e) (equations_words es) (equation_fits e k.0) (equations_fit es k.1)
 
-node_fits : (P : Table) (N : Node) → length P ≤ 32 → NodeKeeps P N → All WordFits (node_words N)
+node_fits : (P : Table) (N : Node) → length P ≤ 32 → NodeKeeps P N → AllByRecursion WordFits (node_words N)
 node_fits P N l k =
     let v = variable_count N in
     let h = k.count.1 in (
@@ -71,11 +71,11 @@ node_fits P N l k =
           (all_append WordFits (equations_words N.equations) (End ∷ []) (equations_fit P v h l N.equations k.equations) (tt, tt)),
     )
 
-nodes_fit : (T : Table) → ((k : ℕ) → k < length T → All WordFits (node_words (node_at T k))) → All WordFits (nodes_words T)
+nodes_fit : (T : Table) → ((k : ℕ) → k < length T → AllByRecursion WordFits (node_words (node_at T k))) → AllByRecursion WordFits (nodes_words T)
 nodes_fit [] f = tt
 nodes_fit (N ∷ T) f = all_append WordFits (node_words N) (nodes_words T) (f zero (omega arith)) (nodes_fit T (λ k h. f (suc k) (suc-le-suc h)))
 
-said_back : (xs : List Word) → All WordFits xs → said (map encoded xs) ≡ xs
+said_back : (xs : List Word) → AllByRecursion WordFits xs → said (map encoded xs) ≡ xs
 said_back [] a = refl
 said_back (x ∷ xs) a = ap (λ o. also o (said (map encoded xs))) (words_stand.reads x a.0) ∙ ap (λ l. x ∷ l) (said_back xs a.1)
 
@@ -147,7 +147,7 @@ equation_back P v (call g r ops gs) ys k s =
     ∙ ap (λ l. call g r ops l ∷ equations_in (map With ops ++ (map Give gs ++ ys))) (gives_back ops gs ys s.gives)
     ∙ ap (λ l. call g r ops gs ∷ l) (parts_skipped ops gs ys)
 
-equations_back : (P : Table) (v : ℕ) (es : List Equation) (rest : List Word) → All (EquationKeeps P v) es → equations_in (tail es rest) ≡ es
+equations_back : (P : Table) (v : ℕ) (es : List Equation) (rest : List Word) → AllByRecursion (EquationKeeps P v) es → equations_in (tail es rest) ≡ es
 equations_back P v [] rest k = refl
 equations_back P v (e ∷ es) rest k =
     equation_back P v e (tail es rest) k.0 (tail_stops es rest) ∙ ap (λ l. e ∷ l) (equations_back P v es rest k.1)

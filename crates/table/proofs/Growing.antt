@@ -1,7 +1,7 @@
 -- One more word, and what it completes.
 use Rattle.std.proofs.Common.{◌≡◌, ℕ, ◌+◌, ◌<◌, ◌≤◌, List, [], ◌∷◌, ◌++◌, map, length, take, sym, refl, ap, ◌∙◌, subst, arith, below_more}
 use Rattle.std.proofs.lemmas.List.{append-nil, append_assoc, map-append, map_push, length_push, take-append-le, get_or_append_left, get_or_push, take_at}
-use Rattle.std.specs.List.{AllByRecursion as All}
+use Rattle.std.specs.List.{AllByRecursion}
 use Rattle.words.specs.declared.kinds.Word.{Word}
 use Rattle.words.specs.declared.kinds.Word.TheVariants.{Head, Node as Open, Variable as Declare, End}
 use Rattle.words.specs.Format.{encoded}
@@ -11,7 +11,7 @@ use Rattle.table.specs.Spelling.{equation_words, equations_words, ports_of, node
 use Rattle.table.proofs.Built.{built}
 use Rattle.table.proofs.Tracked.{Begun, open_words, InNode, After, BetweenNodes, InEquations, InEquation}
 
-pub all_push : {X : Type 0} (P : X → Type 0) (xs : List X) (x : X) → All P xs → P x → All P (xs ++ x ∷ [])
+pub all_push : {X : Type 0} (P : X → Type 0) (xs : List X) (x : X) → AllByRecursion P xs → P x → AllByRecursion P (xs ++ x ∷ [])
 all_push P [] x a p = (p, tt)
 all_push P (y ∷ xs) x a p = (a.0, all_push P xs x a.1 p)
 

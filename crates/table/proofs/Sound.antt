@@ -1,7 +1,7 @@
 -- Words that are read spell the table that is tracked to their end.
 use Rattle.std.proofs.Common.{◌≡◌, ℕ, ◌+◌, ◌^◌, ◌<◌, ◌≤◌, Bool, true, false, cond, ◌||◌, eqb, ltb, List, [], ◌∷◌, ◌++◌, length, Ok, Err, Result, sym, refl, ap, ◌∙◌, subst, arith, ltb-false, ltb-true}
 use Rattle.std.proofs.lemmas.List.{append-nil, append_assoc, length_push}
-use Rattle.std.specs.List.{AllByRecursion as All}
+use Rattle.std.specs.List.{AllByRecursion}
 use Rattle.reader.specs.declared.faults.ReadFault.TheVariants.{Length, Kind}
 use Rattle.reader.specs.declared.outline.Outline.{Outline}
 use Rattle.reader.specs.declared.scan.Expect.{Expect}
@@ -75,7 +75,7 @@ fed_by own s ws w rest o (Ok t) go f b i h e =
     subst F n (go t (ws ++ w ∷ []) j (omega (arith, ap length n, h)) g)
 fed_by own s ws w rest o (Err x) go f b i h e = absurd (refusal x o e)
 
-rest_sound : (own : ℕ) (rest : List ℕ) (o : Outline) → All (λ w. w < 2 ^ 32) rest → Rest own rest o
+rest_sound : (own : ℕ) (rest : List ℕ) (o : Outline) → AllByRecursion (λ w. w < 2 ^ 32) rest → Rest own rest o
 rest_sound own [] o a s ws i h e =
     let n = append-nil ws in
     let F : List ℕ → Type 0 = λ l. SpellsSome own l o in
@@ -84,7 +84,7 @@ rest_sound own (w ∷ rest) o a s ws i h e =
     fed_by own s ws w rest o (feed_of own s (length ws) w) (rest_sound own rest o a.1) refl a.0 i h e
 
 -- What is read is spelled.
-length_by : (own : ℕ) (ws : List ℕ) (o : Outline) (b : Bool) → (eqb (length ws) 0 || ltb 16384 (length ws)) ≡ b → All (λ w. w < 2 ^ 32) ws
+length_by : (own : ℕ) (ws : List ℕ) (o : Outline) (b : Bool) → (eqb (length ws) 0 || ltb 16384 (length ws)) ≡ b → AllByRecursion (λ w. w < 2 ^ 32) ws
     → cond b (Err Length) (scanned own 0 start ws) ≡ Ok o → length ws ≤ 16384 → SpellsSome own ws o
 length_by own ws o true t a e h = absurd (refusal Length o e)
 length_by own ws o false t a e h = rest_sound own ws o a start [] (refl, refl) h e
@@ -97,7 +97,7 @@ short_by : (own : ℕ) (ws : List ℕ) (o : Outline) (b : Bool) → (eqb (length
 short_by own ws o true t e = absurd (refusal Length o e)
 short_by own ws o false t e = ltb-false 16384 (length ws) (not_or (eqb (length ws) 0) (ltb 16384 (length ws)) t)
 
-pub sound : (own : ℕ) (ws : List ℕ) (o : Outline) → All (λ w. w < 2 ^ 32) ws → scan_of own ws ≡ Ok o → SpellsSome own ws o
+pub sound : (own : ℕ) (ws : List ℕ) (o : Outline) → AllByRecursion (λ w. w < 2 ^ 32) ws → scan_of own ws ≡ Ok o → SpellsSome own ws o
 sound own ws o a e =
     let b = eqb (length ws) 0 || ltb 16384 (length ws) in
     length_by own ws o b refl a e (short_by own ws o b refl e)

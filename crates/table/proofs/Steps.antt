@@ -1,7 +1,7 @@
 -- A word that passes its tests takes what is known one word on.
 use Rattle.std.proofs.Common.{◌≡◌, ℕ, ◌+◌, ◌-◌, ◌^◌, ◌<◌, ◌≤◌, Bool, true, false, cond, ◌&&◌, eqb, ltb, ◌≢◌, List, [], ◌∷◌, ◌++◌, map, length, get_or, set, replicate, Some, Ok, Err, Result, sym, refl, ap, ◌∙◌, subst, arith, ltb-false, ltb-true, eqb-true, leb-true}
 use Rattle.std.proofs.lemmas.List.{append-nil, append_assoc, map_push, length_push, length-map, length-set, length-replicate, get_or-replicate, get_or-set_same, get_or-set_other}
-use Rattle.std.specs.List.{AllByRecursion as All}
+use Rattle.std.specs.List.{AllByRecursion}
 use Rattle.words.specs.Bits.{field, kind_of, is_kind}
 use Rattle.words.specs.Format.{encoded, decoded_as, clock_in, ports_in, variable_in, literal_in, spare_zero}
 use Rattle.words.specs.declared.kinds.Clock.{Clock}
@@ -202,7 +202,7 @@ declared_ports p vs e =
 -- the last variable is read
 declared_all : (own v : ℕ) (o : Outline) (ws : List ℕ) (P : Table) (p : Ports) (vs : List Variable)
     → After own P (Open p ∷ map Declare vs) ws → Begun P p.inputs p.outputs v 0 o
-    → p.inputs + p.outputs + p.locals ≡ v → length vs ≡ v → All (VariableKeeps v) vs → InEquations own v o ws
+    → p.inputs + p.outputs + p.locals ≡ v → length vs ≡ v → AllByRecursion (VariableKeeps v) vs → InEquations own v o ws
 declared_all own v o ws P p vs a b t n k = record {
   table = P;
   node = declared p vs;

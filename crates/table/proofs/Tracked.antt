@@ -1,6 +1,6 @@
 -- What is known of the words read so far, by what is due next.
 use Rattle.std.proofs.Common.{◌≡◌, ℕ, ◌+◌, ◌*◌, ◌<◌, ◌≤◌, List, [], ◌∷◌, ◌++◌, map, length, get_or, take}
-use Rattle.std.specs.List.{AllByRecursion as All}
+use Rattle.std.specs.List.{AllByRecursion}
 use Rattle.words.specs.declared.kinds.Operand.{Operand}
 use Rattle.words.specs.declared.kinds.Ports.{Ports}
 use Rattle.words.specs.declared.kinds.Variable.{Variable}
@@ -58,8 +58,8 @@ open_words N = Open (ports_of N) ∷ (map Declare N.variables ++ equations_words
 pub record InNode (P : Table) (N : Node) (v n : ℕ) (o : Outline) : Type 0 where
   pub begun : Begun P N.inputs N.outputs v n o
   pub variables : variable_count N ≡ v
-  pub each_variable : All (VariableKeeps v) N.variables
-  pub each_equation : All (EquationKeeps P v) N.equations
+  pub each_variable : AllByRecursion (VariableKeeps v) N.variables
+  pub each_equation : AllByRecursion (EquationKeeps P v) N.equations
   pub heads : (e : ℕ) → e < n → get_or o.heads (64 * length P + e) 0 ≡ head_place P N e
 
 -- The words so far are those of P, and then xs.
@@ -82,7 +82,7 @@ pub record InVariables (own more v : ℕ) (o : Outline) (ws : List ℕ) : Type 0
   pub total : ports.inputs + ports.outputs + ports.locals ≡ v
   pub count : length variables + more ≡ v
   pub some : 1 ≤ more
-  pub each : All (VariableKeeps v) variables
+  pub each : AllByRecursion (VariableKeeps v) variables
 
 pub record InEquations (own v : ℕ) (o : Outline) (ws : List ℕ) : Type 0 where
   pub table : Table
@@ -103,8 +103,8 @@ pub record InEquation (own operands gives v : ℕ) (o : Outline) (ws : List ℕ)
   pub words : After own table (begun_words node head ops gs) ws
   pub within : InNode table node v (length node.equations + 1) o
   pub keeps : HeadKeeps table v head
-  pub each_operand : All (OperandKeeps v) ops
-  pub each_give : All (λ x. x < v) gs
+  pub each_operand : AllByRecursion (OperandKeeps v) ops
+  pub each_give : AllByRecursion (λ x. x < v) gs
   pub operand_count : length ops + operands ≡ arity table head
   pub give_count : length gs + gives ≡ give_count table head
   pub literal : DelayStarts head ops

@@ -1,6 +1,6 @@
 -- The reader accepts the words of tables within the limits, and no others.
 use Rattle.std.proofs.Common.{◌≡◌, ℕ, zero, suc, ◌^◌, ◌<◌, ◌≤◌, List, [], ◌∷◌, length, get_or, is_ok, Ok, Err, sym, refl, ap, ◌∙◌, subst, arith}
-use Rattle.std.specs.List.{AllByRecursion as All}
+use Rattle.std.specs.List.{AllByRecursion}
 use Rattle.reader.specs.Whole.{Read, scan_of}
 use Rattle.table.specs.Syntax.{Table}
 use Rattle.reader.specs.declared.outline.Outline.{Outline}
@@ -11,7 +11,7 @@ use Rattle.table.proofs.Accepted.{accepted}
 use Rattle.table.proofs.Sound.{SpellsSome, sound}
 use Rattle.table.proofs.Decoded.{decoded_back}
 
-all_small : (ws : List ℕ) → ((i : ℕ) → get_or ws i 0 < 2 ^ 32) → All (λ w. w < 2 ^ 32) ws
+all_small : (ws : List ℕ) → ((i : ℕ) → get_or ws i 0 < 2 ^ 32) → AllByRecursion (λ w. w < 2 ^ 32) ws
 all_small [] f = tt
 all_small (w ∷ ws) f = (f zero, all_small ws (λ i. f (suc i)))
 
@@ -28,7 +28,7 @@ the_table own ws o n s =
       outlines = subst G same s.outlines;
     }
 
-reads_by : (own : ℕ) (ws : List ℕ) (r : Read) → own < 256 → All (λ w. w < 2 ^ 32) ws → scan_of own ws ≡ r → Reads own ws r
+reads_by : (own : ℕ) (ws : List ℕ) (r : Read) → own < 256 → AllByRecursion (λ w. w < 2 ^ 32) ws → scan_of own ws ≡ r → Reads own ws r
 reads_by own ws (Ok o) n a e = the_table own ws o n (sound own ws o a e)
 reads_by own ws (Err f) n a e = λ T k h s.
     let short : length (spelled own T) ≤ 16384 = omega (arith, ap length s, h) in

@@ -1,6 +1,6 @@
 -- The words of a table, and the limits that a table keeps.
 use Rattle.std.specs.Prelude.{◌≡◌, ℕ, ◌+◌, ◌-◌, ◌*◌, ◌^◌, ◌<◌, ◌≤◌, List, [], ◌∷◌, ◌++◌, map, length, take, Some, None, Option, slice_index, slice_index_or}
-use Rattle.std.specs.List.{AllByRecursion as All}
+use Rattle.std.specs.List.{AllByRecursion}
 use Rattle.words.specs.declared.kinds.Clock.{Clock}
 use Rattle.words.specs.declared.kinds.Clock.TheVariants.{Base, On}
 use Rattle.words.specs.declared.kinds.Literal.{Literal}
@@ -80,16 +80,16 @@ EquationKeeps earlier v (merge s a b x) = (s < v) × OperandKeeps v a × Operand
 EquationKeeps earlier v (choose s a b x) = (s < v) × OperandKeeps v a × OperandKeeps v b × (x < v)
 EquationKeeps earlier v (delay l a x) = LiteralKeeps l × OperandKeeps v a × (x < v)
 EquationKeeps earlier v (call g r ops gs) =
-    (g < length earlier) × RestartKeeps v r × All (OperandKeeps v) ops × All (λ x. x < v) gs ×
+    (g < length earlier) × RestartKeeps v r × AllByRecursion (OperandKeeps v) ops × AllByRecursion (λ x. x < v) gs ×
     (length ops ≡ (node_at earlier g).inputs) × (length gs ≡ (node_at earlier g).outputs)
 
 pub record NodeKeeps (earlier : Table) (N : Node) : Type 0 where
   pub inputs : (1 ≤ N.inputs) × (N.inputs ≤ 16)
   pub outputs : (1 ≤ N.outputs) × (N.outputs ≤ 16)
   pub count : (N.inputs + N.outputs ≤ variable_count N) × (variable_count N ≤ 64)
-  pub variables : All (VariableKeeps (variable_count N)) N.variables
+  pub variables : AllByRecursion (VariableKeeps (variable_count N)) N.variables
   pub equation_count : length N.equations ≤ 64
-  pub equations : All (EquationKeeps earlier (variable_count N)) N.equations
+  pub equations : AllByRecursion (EquationKeeps earlier (variable_count N)) N.equations
 
 pub record KeepsLimits (T : Table) : Type 0 where
   pub count : (1 ≤ length T) × (length T ≤ 32)

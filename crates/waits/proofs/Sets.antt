@@ -1,7 +1,7 @@
 -- Sets of variables as the lists of their members.
 use Rattle.std.proofs.Common.{◌≡◌, ℕ, ◌*◌, ◌%◌, ◌^◌, ◌<◌, Bool, true, false, not, ◌&&◌, ◌||◌, eqb, List, [], ◌∷◌, ◌++◌, sym, refl, ap, ◌∙◌, subst, inl, inr, arith}
 use lib.Bits.{bit_and, bit_or}
-use Rattle.std.specs.List.{AllByRecursion as All}
+use Rattle.std.specs.List.{AllByRecursion}
 use Rattle.std.proofs.lemmas.Nat.{one_shl, and_le_l}
 use Rattle.std.proofs.lemmas.Bool.{cases_eq, eq-eqb, ne_eqb, eqb-true, or_cases, or_right}
 use Rattle.rules.specs.Definitions.{is_in}
@@ -62,7 +62,7 @@ meets_some (y ∷ l) m x a b =
     ]
 
 -- and with none
-meets_none : (l m : List ℕ) → ((x : ℕ) → x < 64 → is_in x l ≡ true → is_in x m ≡ false) → All (λ x. x < 64) l → meets l m ≡ false
+meets_none : (l m : List ℕ) → ((x : ℕ) → x < 64 → is_in x l ≡ true → is_in x m ≡ false) → AllByRecursion (λ x. x < 64) l → meets l m ≡ false
 meets_none [] m f a = refl
 meets_none (y ∷ l) m f a =
     let p = f y a.0 (ap (λ b. b || is_in y l) (eq-eqb y y refl)) in
@@ -74,7 +74,7 @@ and_right true true e = (refl, refl)
 and_right true false e = (refl, e)
 and_right false b e = let z : ◌≡◌ {A = ℕ} 0 1 = cc in absurd (omega arith)
 
-pub holds_meet : (s t : VariableSet) (l m : List ℕ) → s.0 < 2 ^ 64 → Holds s l → Holds t m → All (λ x. x < 64) l → not (eqb (bit_and s.0 t.0) 0) ≡ meets l m
+pub holds_meet : (s t : VariableSet) (l m : List ℕ) → s.0 < 2 ^ 64 → Holds s l → Holds t m → AllByRecursion (λ x. x < 64) l → not (eqb (bit_and s.0 t.0) 0) ≡ meets l m
 holds_meet s t l m small h k a =
     let n = bit_and s.0 t.0 in
     elim (cases_eq n 0) [

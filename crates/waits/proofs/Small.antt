@@ -1,6 +1,6 @@
 -- What a described table names is below 64.
 use Rattle.std.proofs.Common.{◌≡◌, ℕ, ◌<◌, ◌≤◌, Bool, eqb, List, [], ◌∷◌, length, take, Some, None, Option, sym, ap, ◌∙◌, subst, inl, inr, arith}
-use Rattle.std.specs.List.{AllByRecursion as All}
+use Rattle.std.specs.List.{AllByRecursion}
 use Rattle.std.proofs.lemmas.List.{get_or_past}
 use Rattle.std.proofs.ByRecursion.{All-get_or, All-weaker}
 use Rattle.std.proofs.lemmas.Bool.{cases_Bool, cases_lt}
@@ -53,7 +53,7 @@ keeps_small P v (choose s a b x) h k = (omega (arith, k.0), operand_small v a h 
 keeps_small P v (delay l a x) h k = operand_small v a h k.1
 keeps_small P v (call g r ops gs) h k = restart_small v r h k.1
 
-keeps_defined : (P : Table) (v : ℕ) (E : Equation) → EquationKeeps P v E → All (λ x. x < v) (defined E)
+keeps_defined : (P : Table) (v : ℕ) (E : Equation) → EquationKeeps P v E → AllByRecursion (λ x. x < v) (defined E)
 keeps_defined P v (operate op a b x) k = (k.2, tt)
 keeps_defined P v (sample a x) k = (k.1, tt)
 keeps_defined P v (merge s a b x) k = (k.3, tt)
@@ -111,7 +111,7 @@ module _ (ws : List ℕ) (o : Outline) (d : Described ws o) where
     pub equation_small : (e : ℕ) → e < equation_count (node_at (table_of ws) k) → EquationSmall (equation_at (node_at (table_of ws) k) e)
     equation_small e l = keeps_small _ _ (equation_at (node_at (table_of ws) k) e) (d.spells.keeps.nodes k h).count.1 (equation_keeps e l)
 
-    pub defined_small : (e : ℕ) → e < equation_count (node_at (table_of ws) k) → All (λ x. x < 64) (defined (equation_at (node_at (table_of ws) k) e))
+    pub defined_small : (e : ℕ) → e < equation_count (node_at (table_of ws) k) → AllByRecursion (λ x. x < 64) (defined (equation_at (node_at (table_of ws) k) e))
     defined_small e l =
         let N = node_at (table_of ws) k in
         All-weaker (λ x. x < variable_count N) (λ x. x < 64) (λ x b. omega (arith, b, (d.spells.keeps.nodes k h).count.1)) (defined (equation_at N e))
@@ -119,4 +119,4 @@ module _ (ws : List ℕ) (o : Outline) (d : Described ws o) where
 
     -- the one variable that an equation defines
     pub one_small : (e : ℕ) → e < equation_count (node_at (table_of ws) k) → (x : ℕ) → defined (equation_at (node_at (table_of ws) k) e) ≡ x ∷ [] → x < 64
-    one_small e l x q = let P : List ℕ → Type 0 = λ xs. All (λ y. y < 64) xs in (subst P q (defined_small e l)).0
+    one_small e l x q = let P : List ℕ → Type 0 = λ xs. AllByRecursion (λ y. y < 64) xs in (subst P q (defined_small e l)).0

@@ -1,6 +1,6 @@
 // Sets of a node's variables, of which there are at most 64.
 ghost use Rattle.std.specs.Prelude.{◌≡◌, ℕ, ◌<◌, List, [], ◌∷◌, ◌++◌};
-ghost use Rattle.std.specs.List.{AllByRecursion as All};
+ghost use Rattle.std.specs.List.{AllByRecursion};
 ghost use Rattle.schedule.specs.Reads.{meets as share};
 ghost use Rattle.waits.specs.Members.{has, Holds};
 
@@ -38,7 +38,7 @@ impl VariableSet {
 
     /// Whether a variable is in both sets.
     pub fn meets(self, other: VariableSet) -> bool
-        ensures { (l m : List ℕ) → Holds self l → Holds other m → All (λ x. x < 64) l → result ≡ share l m }
+        ensures { (l m : List ℕ) → Holds self l → Holds other m → AllByRecursion (λ x. x < 64) l → result ≡ share l m }
     {
         self.0 & other.0 != 0
     }
