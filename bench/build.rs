@@ -1,4 +1,4 @@
-//! Links the static library of the crate `capi`, which `rt staticlib capi` writes.
+//! Links the static library of the crate `capi`, which `tools/build.sh capi` writes.
 //!
 //! `run.sh` says by `NODERUN_STATICLIB` in which folder the library is, so that a repository which was moved is built anew.
 

@@ -19,13 +19,8 @@ shift
 
 repository=$(CDPATH= cd -- "$(dirname -- "$0")/.." && pwd)
 cd -- "$repository"
-mkdir -p target
 
-# What rt prints of the proofs is shown only where it fails.
-if ! rt staticlib capi >target/bench-staticlib.log 2>&1; then
-    cat target/bench-staticlib.log >&2
-    exit 1
-fi
+tools/build.sh capi
 NODERUN_STATICLIB=$repository/target/staticlib
 export NODERUN_STATICLIB
 cargo build --quiet --release --offline --locked --manifest-path bench/Cargo.toml --target-dir target/bench --bin "$program"

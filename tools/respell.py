@@ -129,6 +129,11 @@ def declared(root):
                 continue
             t = is_type(line, ty)
             names[n] = names.get(n, False) or t
+    # and the names that an import gives
+    for path in files(os.path.join(root, "crates"), ".rt", ".antt"):
+        for line in re.findall(r"^\s*(?:ghost )?use [^;\n]*", read(path), re.M):
+            for n in re.findall(r" as ([a-z]+[A-Z][A-Za-z]*)", line):
+                names.setdefault(n, False)
     return names
 
 

@@ -10,6 +10,13 @@ trap 'rm -f "$log"' EXIT
 rt ci 2>&1 | tee "$log"
 verdict=$(tail -n 1 "$log")
 
+# an edit that no longer fits the code shows nothing, and rt ci only counts it
+if grep -Eq '^rt: ok.*, [1-9][0-9]* bad' "$log"; then
+    echo 'test: a must-fail edit is bad' >&2
+    exit 1
+fi
+
+tools/build.sh noderun
 tools/commands.sh
 bench/run.sh compare
 

@@ -3,7 +3,7 @@ ghost use Rattle.std.specs.Prelude.{◌≡◌, ◌+◌};
 ghost use Rattle.table.specs.Access.{Described};
 ghost use Rattle.table.specs.Decoding.{table_of};
 ghost use Rattle.table.specs.Syntax.{node_at};
-ghost use Rattle.rules.specs.Clocks.{clock_of, reaches as reachesWithin, same_clock, variable_clocked};
+ghost use Rattle.rules.specs.Clocks.{clock_of, reaches as reaches_within, same_clock, variable_clocked};
 
 use reader::Outline;
 use words::Clock;
@@ -33,7 +33,7 @@ pub fn same_clock(a: Clock, b: Clock) -> bool
 /// Whether the chain of variable `x`, its sampler, that sampler's sampler and so on, reaches the base within `depth` samplers.
 fn reaches(words: &[u32], outline: &Outline, k: usize, x: usize, depth: u8) -> bool
     requires { Described words.now outline.now }
-    ensures { result ≡ reachesWithin depth (node_at (table_of words.now) k) x }
+    ensures { result ≡ reaches_within depth (node_at (table_of words.now) k) x }
 {
     match clock_of(words, outline, k, x) {
         Clock::Base => true,

@@ -5,8 +5,8 @@ ghost use Rattle.table.specs.Access.{Described};
 ghost use Rattle.table.specs.Decoding.{table_of};
 ghost use Rattle.table.specs.Syntax.{call, equation_at, equation_count, node_at};
 ghost use Rattle.rules.specs.Clocks.{call_clock, clock_of};
-ghost use Rattle.code.specs.Statements.{assign, call_reset, delay_reset, restart_statements, select, statements as statementsOf, step, under};
-ghost use Rattle.code.specs.Code.{second as secondWord, statement_words, statements_words};
+ghost use Rattle.code.specs.Statements.{assign, call_reset, delay_reset, restart_statements, select, statements as statements_of, step, under};
+ghost use Rattle.code.specs.Code.{second as second_word, statement_words, statements_words};
 ghost use Rattle.pieces.specs.Fitting.{SecondFits, call_operands, call_gives};
 ghost use Rattle.pieces.specs.Holding.{Adds};
 
@@ -21,7 +21,7 @@ use words::Operand;
 
 /// How many words an operator has with its operands.
 fn assign_length(b: Option<Operand>) -> u16
-    ensures { result ≡ 2 + length (secondWord b) }
+    ensures { result ≡ 2 + length (second_word b) }
 {
     match b {
         None => 2,
@@ -136,7 +136,7 @@ fn push_call(
     requires node { g < length (table_of words.now) }
     requires fits { (offset < 2 ^ 13) × (RestartFits restart) }
     requires room { piece.old.len ≤ 13 }
-    ensures { Adds piece.old piece.new (statements_words (statementsOf (node_at (table_of words.now) k) offset (call g restart (call_operands words.now g at) (call_gives words.now g at)))) }
+    ensures { Adds piece.old piece.new (statements_words (statements_of (node_at (table_of words.now) k) offset (call g restart (call_operands words.now g at) (call_gives words.now g at)))) }
 {
     push_restart(piece, words, outline, k, g, offset, restart);
     push_stepped(piece, words, outline, k, g, offset, at);
@@ -156,7 +156,7 @@ pub fn push_statements(
     requires within { e < equation_count (node_at (table_of words.now) k) }
     requires fits { offset < 2 ^ 13 }
     requires room { piece.old.len ≤ 13 }
-    ensures { Adds piece.old piece.new (statements_words (statementsOf (node_at (table_of words.now) k) offset (equation_at (node_at (table_of words.now) k) e))) }
+    ensures { Adds piece.old piece.new (statements_words (statements_of (node_at (table_of words.now) k) offset (equation_at (node_at (table_of words.now) k) e))) }
 {
     match equation(words, outline, k, e) {
         Drawn::Operate(op, a, b, x) => push_assigned(piece, words, outline, k, op, a, b, x),

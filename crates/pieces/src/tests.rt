@@ -5,7 +5,7 @@ ghost use Rattle.table.specs.Access.{Described};
 ghost use Rattle.table.specs.Decoding.{table_of};
 ghost use Rattle.table.specs.Syntax.{node_at};
 ghost use Rattle.rules.specs.Clocks.{clock_of};
-ghost use Rattle.code.specs.Statements.{tests as testsOf, tests_to};
+ghost use Rattle.code.specs.Statements.{tests as tests_of, tests_to};
 ghost use Rattle.code.specs.Code.{tests_words};
 ghost use Rattle.pieces.specs.Holding.{Adds};
 
@@ -57,7 +57,7 @@ pub fn push_clock(
     requires described { Described words.now outline.now }
     requires room { piece.old.len ≤ 56 }
     requires near { distance ≤ 64 }
-    ensures { Adds piece.old piece.new (tests_words (testsOf (node_at (table_of words.now) k) (clock_of (node_at (table_of words.now) k) x)) distance) }
+    ensures { Adds piece.old piece.new (tests_words (tests_of (node_at (table_of words.now) k) (clock_of (node_at (table_of words.now) k) x)) distance) }
 {
     let clock = variable(words, outline, k, x as usize).clock;
     push_tests(piece, words, outline, k, clock, MOST_SAMPLERS, distance);

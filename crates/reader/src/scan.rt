@@ -1,6 +1,6 @@
 // What one more word does to what is read so far.
 ghost use Rattle.std.specs.Prelude.{◌≡◌, ◌<◌, set, slice_index, slice_set};
-ghost use Rattle.reader.specs.Scanning.{after, begun, behind as behindOf, counts_fit, current as currentOf, equation_head, equation_word, equations_read, feed_of, give_word, head_word, is_head, literal_word, may_end, node_word, numbers_fit, onward as onwardOf, operand_word, restart_fits, sampler_fits, site_of, start as start_of, variable_word};
+ghost use Rattle.reader.specs.Scanning.{after, begun, behind as behind_of, counts_fit, current as current_of, equation_head, equation_word, equations_read, feed_of, give_word, head_word, is_head, literal_word, may_end, node_word, numbers_fit, onward as onward_of, operand_word, restart_fits, sampler_fits, site_of, start as start_of, variable_word};
 
 use crate::faults::{ReadFault, Site};
 use crate::outline::Outline;
@@ -64,7 +64,7 @@ fn is_head(w: u32) -> bool
 
 /// What stands behind an operand, where `more` were to come with it.
 fn onward(more: u8, gives: u8) -> Expect
-    ensures { result ≡ onwardOf more gives }
+    ensures { result ≡ onward_of more gives }
 {
     if more > 1 {
         Expect::Operands(more - 1, gives)
@@ -96,7 +96,7 @@ impl Scan {
 
     /// The number of the node that is being read, 0 before any.
     fn current(&self) -> u8
-        ensures { result ≡ currentOf self.now }
+        ensures { result ≡ current_of self.now }
     {
         self.outline.nodes.saturating_sub(1)
     }
@@ -215,7 +215,7 @@ impl Scan {
     }
 
     fn behind(&self, w: u32) -> Expect
-        ensures { result ≡ behindOf self.now w }
+        ensures { result ≡ behind_of self.now w }
     {
         let high = ((w >> 20) % 0x100) as u8;
         match kind(w) {

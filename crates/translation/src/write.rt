@@ -3,7 +3,7 @@ ghost use Rattle.std.specs.Prelude.{◌≡◌, ◌+◌, ◌<◌, ◌≤◌, leng
 ghost use Rattle.words.specs.Bits.{field};
 ghost use Rattle.table.specs.Decoding.{table_of};
 ghost use Rattle.admission.specs.Planned.{Planned};
-ghost use Rattle.code.specs.Code.{blocks as blocksOf, front as frontOf, front_length};
+ghost use Rattle.code.specs.Code.{blocks as blocks_of, front as front_of, front_length};
 ghost use Rattle.pieces.specs.Holding.{contents};
 ghost use Rattle.blocks.specs.Numbered.{block_words};
 ghost use Rattle.blocks.specs.Offsets.{OffsetsOf};
@@ -54,8 +54,8 @@ fn write_block(
 /// Writes the blocks of all nodes to a place, and answers the place behind them.
 pub fn write_blocks(words: &[u32], plan: &Plan, at: usize, buffer: &mut [u32]) -> usize
     requires planned { Planned words.now plan.now }
-    requires room { at + length (blocksOf (table_of words.now) (length (table_of words.now))) ≤ length buffer.old }
-    ensures { Wrote at (blocksOf (table_of words.now) (length (table_of words.now))) buffer.old result buffer.new }
+    requires room { at + length (blocks_of (table_of words.now) (length (table_of words.now))) ≤ length buffer.old }
+    ensures { Wrote at (blocks_of (table_of words.now) (length (table_of words.now))) buffer.old result buffer.new }
 {
     let mut next = at;
     'nodes: for k in 0..plan.outline.nodes as usize {
@@ -72,7 +72,7 @@ pub fn write_front(words: &[u32], plan: &Plan, places: &Places, buffer: &mut [u3
     requires places { PlacesOf (table_of words.now) places.now }
     requires short { places.now.length ≤ 16384 }
     requires room { front_length (table_of words.now) ≤ length buffer.old }
-    ensures { Wrote 0 (frontOf (field (slice_index words.now 0) 0 8) (table_of words.now)) buffer.old result buffer.new }
+    ensures { Wrote 0 (front_of (field (slice_index words.now 0) 0 8) (table_of words.now)) buffer.old result buffer.new }
 {
     let mut next = 0usize;
     'pieces: for j in 0..plan.outline.nodes as usize + 2 {

@@ -1,6 +1,6 @@
 // The types of a node's variables and of its operands.
 ghost use Rattle.std.specs.Prelude.{◌≡◌};
-ghost use Rattle.rules.specs.Types.{is_boolean, operand_has, operand_type, type_of, valued as isValued};
+ghost use Rattle.rules.specs.Types.{is_boolean, operand_has, operand_type, type_of, valued as is_valued};
 ghost use Rattle.table.specs.Access.{Described};
 ghost use Rattle.table.specs.Decoding.{table_of};
 ghost use Rattle.table.specs.Syntax.{node_at};
@@ -37,7 +37,7 @@ pub fn operand_type(words: &[u32], outline: &Outline, k: usize, a: Operand) -> u
 
 /// Whether the operand has a value: a literal may have a payload that its type gives none.
 pub fn valued<S: OperatorSet>(a: Operand) -> bool
-    ensures { result ≡ isValued S.OperatorSet.meaning a }
+    ensures { result ≡ is_valued S.OperatorSet.meaning a }
 {
     match a {
         Operand::Take(_) => true,

@@ -4,7 +4,7 @@ ghost use Rattle.table.specs.Access.{Described};
 ghost use Rattle.table.specs.Decoding.{table_of};
 ghost use Rattle.table.specs.Syntax.{Equation, Node, equation_at, equation_count, node_at};
 ghost use Rattle.rules.specs.Definitions.{is_delay};
-ghost use Rattle.schedule.specs.Reads.{feeds as feedsOf};
+ghost use Rattle.schedule.specs.Reads.{feeds as feeds_of};
 ghost use Rattle.waits.specs.Linked.{Linked, no_links};
 
 use crate::equation_variables::{defines, reads};
@@ -75,7 +75,7 @@ fn precedes(a: bool, b: bool, same: bool, feeds: bool, fed: bool) -> bool
 
 /// Whether the equation with links `a` comes before that with links `b`.
 pub fn goes_first(a: Links, b: Links, same: bool) -> bool
-    ensures { (N : Node) (E F : Equation) → Linked N a E → Linked N b F → result ≡ ((not (is_delay E) && feedsOf N E F) || (is_delay F && (not same && feedsOf N F E))) }
+    ensures { (N : Node) (E F : Equation) → Linked N a E → Linked N b F → result ≡ ((not (is_delay E) && feeds_of N E F) || (is_delay F && (not same && feeds_of N F E))) }
 {
     precedes(
         a.delay,
