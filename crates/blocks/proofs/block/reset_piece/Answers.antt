@@ -9,11 +9,11 @@ use Rattle.blocks.proofs.Blocked.{call_at, delay_at, reset_end}
 use Rattle.blocks.proofs.Needing.{offset_small}
 use Rattle.blocks.proofs.block.reset_piece.Goals as goal
 
-pub push-call-reset-requires : goal.push-call-reset-requires
-push-call-reset-requires c =
+pub push_call_reset-requires : goal.push_call_reset-requires
+push_call_reset-requires c =
     let ws = c.args.words.now in
-    let e = c.args.j - c.equation-count-equations.result in
-    let l : e < equation_count (node_at (table_of ws) c.args.k) = omega (arith, c.equation-count-equations.ensures) in
+    let e = c.args.j - c.equation_count-equations.result in
+    let l : e < equation_count (node_at (table_of ws) c.args.k) = omega (arith, c.equation_count-equations.ensures) in
     record {
       described = c.requires.planned.described;
       node = c.requires.node;
@@ -24,8 +24,8 @@ push-call-reset-requires c =
 
 pub returns-then-j-equations : goal.returns-then-j-equations
 returns-then-j-equations c =
-    holds_first c.new-piece.ensures c.push-delay-reset.ensures
-    (delay_at (table_of c.args.words.now) c.args.k c.args.j (omega (arith, c.equation-count-equations.ensures)))
+    holds_first c.new-piece.ensures c.push_delay_reset.ensures
+    (delay_at (table_of c.args.words.now) c.args.k c.args.j (omega (arith, c.equation_count-equations.ensures)))
 
 pub returns-then-j-equations-2 : goal.returns-then-j-equations-2
 returns-then-j-equations-2 c =
@@ -33,10 +33,10 @@ returns-then-j-equations-2 c =
     let k = c.args.k in
     let j = c.args.j in
     let n = equation_count (node_at T k) in
-    let is : c.equation-count-equations.result ≡ n = c.equation-count-equations.ensures in
-    let e = j - c.equation-count-equations.result in
+    let is : c.equation_count-equations.result ≡ n = c.equation_count-equations.ensures in
+    let e = j - c.equation_count-equations.result in
     let l : e < n = omega (arith, is) in
-    holds_first c.new-piece.ensures c.push-call-reset.ensures
+    holds_first c.new-piece.ensures c.push_call_reset.ensures
     (call_at T k j (omega (arith, is)) (omega (arith, is)) ∙ ap (λ m. call_piece T k (j - m)) (sym is)
     ∙ ap (λ o. statements_words (call_reset o (equation_at (node_at T k) e))) (sym (c.requires.offsets e l)))
 
@@ -44,5 +44,5 @@ pub returns-else-j-equations-2 : goal.returns-else-j-equations-2
 returns-else-j-equations-2 c =
     let T = table_of c.args.words.now in
     let n = equation_count (node_at T c.args.k) in
-    let is : c.equation-count-equations.result ≡ n = c.equation-count-equations.ensures in
+    let is : c.equation_count-equations.result ≡ n = c.equation_count-equations.ensures in
     holds_first c.new-piece.ensures c.push.ensures (reset_end T c.args.k c.args.j (omega (arith, is)) (omega (arith, is)))

@@ -19,7 +19,7 @@ bounds-offsets-e c =
     let ws = c.args.words.now in
     let p = c.args.plan.now in
     let k = c.args.k in
-    let l : c.args.j < equation_count (node_at (table_of ws) k) = omega (arith, c.equation-count.ensures) in
+    let l : c.args.j < equation_count (node_at (table_of ws) k) = omega (arith, c.equation_count.ensures) in
     omega (
       arith,
       place_is ws p c.requires.planned k c.requires.node c.args.j l,
@@ -27,13 +27,13 @@ bounds-offsets-e c =
       equations_few ws p.outline c.requires.planned.described k c.requires.node,
     )
 
-pub push-statements-requires : goal.push-statements-requires
-push-statements-requires c =
+pub push_statements-requires : goal.push_statements-requires
+push_statements-requires c =
     let ws = c.args.words.now in
     let p = c.args.plan.now in
     let k = c.args.k in
     let n = equation_count (node_at (table_of ws) k) in
-    let l : c.args.j < n = omega (arith, c.equation-count.ensures) in
+    let l : c.args.j < n = omega (arith, c.equation_count.ensures) in
     let e = get_or (get_or p.orders k no_places).places c.args.j 0 in
     let m : e < n = omega (arith, place_is ws p c.requires.planned k c.requires.node c.args.j l, place_below ws p c.requires.planned k c.requires.node c.args.j l) in
     record {
@@ -44,22 +44,22 @@ push-statements-requires c =
       room = omega (arith, c.new-piece.ensures.count);
     }
 
-pub returns-then-j-equation-count : goal.returns-then-j-equation-count
-returns-then-j-equation-count c =
+pub returns-then-j-equation_count : goal.returns-then-j-equation_count
+returns-then-j-equation_count c =
     let ws = c.args.words.now in
     let p = c.args.plan.now in
     let T = table_of ws in
     let k = c.args.k in
     let N = node_at T k in
-    let l : c.args.j < equation_count N = omega (arith, c.equation-count.ensures) in
+    let l : c.args.j < equation_count N = omega (arith, c.equation_count.ensures) in
     let is = place_is ws p c.requires.planned k c.requires.node c.args.j l in
     let e = get_or (get_or p.orders k no_places).places c.args.j 0 in
     let m : e < equation_count N = omega (arith, is, place_below ws p c.requires.planned k c.requires.node c.args.j l) in
-    holds_first c.new-piece.ensures c.push-statements.ensures
+    holds_first c.new-piece.ensures c.push_statements.ensures
     (turn_at T k c.args.j l ∙ ap (λ x. statements_words (statements N (offset (needs T) N x) (equation_at N x))) (sym is)
     ∙ ap (λ o. statements_words (statements N o (equation_at N e))) (sym (c.requires.offsets e m)))
 
-pub returns-else-j-equation-count : goal.returns-else-j-equation-count
-returns-else-j-equation-count c =
+pub returns-else-j-equation_count : goal.returns-else-j-equation_count
+returns-else-j-equation_count c =
     holds_first c.new-piece.ensures c.push.ensures
-    (step_end (table_of c.args.words.now) c.args.k c.args.j (omega (arith, c.equation-count.ensures)))
+    (step_end (table_of c.args.words.now) c.args.k c.args.j (omega (arith, c.equation_count.ensures)))

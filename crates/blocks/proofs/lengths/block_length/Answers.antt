@@ -16,7 +16,7 @@ pub pieces-preserved : goal.pieces-preserved
 pieces-preserved c =
     let f = block_piece (table_of c.args.words.now) c.args.k c.args.block in
     let j = c.pieces.j in (
-      omega (arith, c.pieces.invariant.0, c.block-piece-piece.ensures.count, ap length (run_more f j), length-append (up_to f j) (f j)),
+      omega (arith, c.pieces.invariant.0, c.block_piece-piece.ensures.count, ap length (run_more f j), length-append (up_to f j) (f j)),
       omega (arith, c.pieces.invariant.1),
     )
 
@@ -27,7 +27,7 @@ returns c =
     let k = c.args.k in
     let b = c.args.block in
     let P = c.requires.planned in
-    let all : c.pieces.j ≡ piece_count (node_at T k) b = omega (arith, c.piece-count-j-end.ensures) in
+    let all : c.pieces.j ≡ piece_count (node_at T k) b = omega (arith, c.piece_count-j-end.ensures) in
     let few = pieces_few (node_at T k) b (equations_few ws c.args.plan.now.outline P.described k c.requires.node) in
     record {
       value = c.pieces.invariant.0 ∙ ap (λ n. length (up_to (block_piece T k b) n)) all

@@ -6,5 +6,5 @@ use Rattle.blocks.proofs.lengths.measure.Goals as goal
 pub nodes-preserved : goal.nodes-preserved
 nodes-preserved c =
     measured_more (table_of c.args.words.now) c.nodes.k c.nodes.resets c.nodes.steps c.nodes.next
-    c.block-length-next.result c.block-length-next-in-nodes.result (omega (arith, c.requires.described.spells.outlines.nodes, c.requires.described.spells.keeps.count.1)) c.nodes.invariant
-    c.block-length-next.ensures.value c.block-length-next.ensures.small c.block-length-next-in-nodes.ensures.value c.block-length-next-in-nodes.ensures.small
+    c.block_length-next.result c.block_length-next-in-nodes.result (omega (arith, c.requires.described.spells.outlines.nodes, c.requires.described.spells.keeps.count.1)) c.nodes.invariant
+    c.block_length-next.ensures.value c.block_length-next.ensures.small c.block_length-next-in-nodes.ensures.value c.block_length-next-in-nodes.ensures.small

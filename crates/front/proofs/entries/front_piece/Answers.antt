@@ -11,7 +11,7 @@ returns-then-j-lt1 c =
     let ws = c.args.words.now in
     let T = table_of ws in
     let own = field (get_or ws 0 0) 0 8 in
-    let set : c.word-at.result % 256 ≡ own = omega (arith, c.word-at.ensures) in
+    let set : c.word_at.result % 256 ≡ own = omega (arith, c.word_at.ensures) in
     let nodes : c.args.plan.now.outline.nodes ≡ length T = c.requires.planned.described.spells.outlines.nodes in
     holds_first c.new-piece.ensures c.push.ensures
     (head_at T own c.args.j (omega arith) ∙ ap (λ n. Head n own ∷ []) (sym nodes) ∙ ap (λ s. Head c.args.plan.now.outline.nodes s ∷ []) (sym set))
@@ -19,11 +19,11 @@ returns-then-j-lt1 c =
 pub returns-then-j-nodes : goal.returns-then-j-nodes
 returns-then-j-nodes c =
     let ws = c.args.words.now in
-    holds_first c.new-piece.ensures c.push-index.ensures
+    holds_first c.new-piece.ensures c.push_index.ensures
     (index_at (table_of ws) (field (get_or ws 0 0) 0 8) c.args.j (omega arith) (omega (arith, c.requires.planned.described.spells.outlines.nodes)))
 
 pub returns-else-j-nodes : goal.returns-else-j-nodes
 returns-else-j-nodes c =
     let ws = c.args.words.now in
-    holds_first c.new-piece.ensures c.push-ports.ensures
+    holds_first c.new-piece.ensures c.push_ports.ensures
     (ports_at (table_of ws) (field (get_or ws 0 0) 0 8) c.args.j (omega arith) (omega (arith, c.requires.planned.described.spells.outlines.nodes)))

@@ -13,7 +13,7 @@ push-requires c =
     let o = c.args.outline.now in
     let x = c.inputs.x in
     let M = main_of (table_of ws) in
-    let inputs = c.input-count-x-end.ensures ∙ ap (λ N. N.inputs) (main_is ws o c.requires.described) in
+    let inputs = c.input_count-x-end.ensures ∙ ap (λ N. N.inputs) (main_is ws o c.requires.described) in
     let l : x < M.inputs = omega (arith, inputs) in
     let ty = ap (λ v. v.ty) c.variable-ty.ensures ∙ ap (λ N. type_of N x) (main_is ws o c.requires.described) in
     record {

@@ -7,8 +7,8 @@ use Rattle.blocks.proofs.Measured.{begins_within}
 use Rattle.pieces.proofs.Adding.{adds_as, adds_join}
 use Rattle.front.proofs.entries.push_index.Goals as goal
 
-pub overflow-cast-places : goal.overflow-cast-places
-overflow-cast-places c =
+pub overflow_cast-places : goal.overflow_cast-places
+overflow_cast-places c =
     let P = c.requires.places in
     omega (arith, (begins_within (table_of c.args.words.now) c.args.k c.requires.node).0, P.resets c.args.k c.requires.node, P.whole, c.requires.short)
 
@@ -20,8 +20,8 @@ push-requires c =
       room = omega (arith, c.requires.room);
     }
 
-pub overflow-cast-places-2 : goal.overflow-cast-places-2
-overflow-cast-places-2 c =
+pub overflow_cast-places-2 : goal.overflow_cast-places-2
+overflow_cast-places-2 c =
     let P = c.requires.places in
     omega (arith, (begins_within (table_of c.args.words.now) c.args.k c.requires.node).1, P.steps c.args.k c.requires.node, P.whole, c.requires.short)
 

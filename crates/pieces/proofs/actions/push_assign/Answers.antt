@@ -9,7 +9,7 @@ returns-in-Some c =
     adds_as _ _ (ap (λ b. Operate c.args.op c.args.x ∷ With c.args.a ∷ second b) (sym c.in-Some.is))
     (adds_join c.push.ensures (adds_join c.push-2.ensures c.push-in-Some.ensures))
 
-pub returns-in-default : goal.returns-in-default
-returns-in-default c =
-    adds_as _ _ (ap (λ b. Operate c.args.op c.args.x ∷ With c.args.a ∷ second b) (sym c.in-default.is))
+pub returns-in_default : goal.returns-in_default
+returns-in_default c =
+    adds_as _ _ (ap (λ b. Operate c.args.op c.args.x ∷ With c.args.a ∷ second b) (sym c.in_default.is))
     (adds_join c.push.ensures c.push-2.ensures)

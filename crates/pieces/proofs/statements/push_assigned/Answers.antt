@@ -11,5 +11,5 @@ pub returns : goal.returns
 returns c =
     let N = node_at (table_of c.args.words.now) c.args.k in
     let act = action_words (assign c.args.op c.args.a c.args.b c.args.x) in
-    let e : c.assign-length.result ≡ length act = omega (arith, c.assign-length.ensures) in
-    adds_as _ _ (ap (λ n. tests_words (tests N (clock_of N c.args.x)) n ++ act) e) (adds_join c.push-clock.ensures c.push-assign.ensures)
+    let e : c.assign_length.result ≡ length act = omega (arith, c.assign_length.ensures) in
+    adds_as _ _ (ap (λ n. tests_words (tests N (clock_of N c.args.x)) n ++ act) e) (adds_join c.push_clock.ensures c.push_assign.ensures)

@@ -18,4 +18,4 @@ returns c =
     let rs = restart_statements N g c.args.offset c.args.restart in
     let s = under N (call_clock N gs) (step g c.args.offset (call_operands ws g c.args.at) gs) in
     adds_as _ _ (ap (λ l. statements_words rs ++ l) (statement_one s) ∙ sym (statements_append rs (s ∷ [])))
-    (adds_join c.push-restart.ensures c.push-stepped.ensures)
+    (adds_join c.push_restart.ensures c.push_stepped.ensures)

@@ -17,4 +17,4 @@ returns-in-Some c =
     adds_as _ _
     (restart_words (tests N (clock_of N c.in-Some.r)) c.in-Some.r (Reset g off)
     ∙ ap (λ r. statements_words (restart_statements N g off r)) (sym c.in-Some.is))
-    (adds_join c.push-clock.ensures (adds_join c.push.ensures c.push-in-Some.ensures))
+    (adds_join c.push_clock.ensures (adds_join c.push.ensures c.push-in-Some.ensures))

@@ -20,13 +20,13 @@ returns c =
     let at = c.args.at in
     let a = c.within.result in
     let act = action_words (step c.args.g c.args.offset (call_operands ws c.args.g at) (call_gives ws c.args.g at)) in
-    let long : 1 + c.input-count-inputs.result + c.output-count-outputs.result ≡ length act =
-    omega (arith, call_length ws at G.inputs (at + G.inputs) G.outputs, c.input-count-inputs.ensures, c.output-count-outputs.ensures) in
+    let long : 1 + c.input_count-inputs.result + c.output_count-outputs.result ≡ length act =
+    omega (arith, call_length ws at G.inputs (at + G.inputs) G.outputs, c.input_count-inputs.ensures, c.output_count-outputs.ensures) in
     let some = outputs_some ws c.args.outline.now c.requires.described c.args.g c.requires.node in
-    let give : c.give-at-given.result ≡ get_or (call_gives ws c.args.g at) 0 0 =
-    c.give-at-given.ensures ∙ ap (λ i. field (get_or ws (a + i) 0) 0 6) c.input-count-inputs.ensures
+    let give : c.give_at-given.result ≡ get_or (call_gives ws c.args.g at) 0 0 =
+    c.give_at-given.ensures ∙ ap (λ i. field (get_or ws (a + i) 0) 0 6) c.input_count-inputs.ensures
     ∙ sym (first_give ws (a + G.inputs) G.outputs some) ∙ ap (λ l. get_or l 0 0) (c.within.ensures.gives G.inputs G.outputs) in
     adds_as _ _
-    (ap (λ x. tests_words (tests N (clock_of N x)) (1 + c.input-count-inputs.result + c.output-count-outputs.result) ++ act) give
+    (ap (λ x. tests_words (tests N (clock_of N x)) (1 + c.input_count-inputs.result + c.output_count-outputs.result) ++ act) give
     ∙ ap (λ n. tests_words (tests N (clock_of N (get_or (call_gives ws c.args.g at) 0 0))) n ++ act) long)
-    (adds_join c.push-clock.ensures c.push-step.ensures)
+    (adds_join c.push_clock.ensures c.push_step.ensures)

@@ -13,8 +13,8 @@ use Rattle.pieces.proofs.Fits.{clock_fits}
 use Rattle.pieces.proofs.Tested.{few_words, tests_base, tests_on}
 use Rattle.pieces.proofs.tests.+push_tests.Goals as goal
 
-pub push-tests-requires : goal.push-tests-requires
-push-tests-requires t c = (
+pub push_tests-requires : goal.push_tests-requires
+push_tests-requires t c = (
   omega arith,
   (c.requires.described, (clock_fits c.args.words.now c.args.outline.now c.requires.described c.args.k c.in-On.sampler c.variable-outer.result c.variable-outer.ensures, (omega arith, omega arith))),
 )
@@ -25,7 +25,7 @@ push-requires t c =
     let F : Clock → Type 0 = λ x. ClockFits x in
     record {
       fits = (subst F c.in-On.is c.requires.fits, omega (arith, c.requires.near));
-      room = omega (arith, c.requires.room, c.push-tests.ensures.count, few_words (c.args.depth - 1) N c.variable-outer.result.clock (c.args.distance + 1));
+      room = omega (arith, c.requires.room, c.push_tests.ensures.count, few_words (c.args.depth - 1) N c.variable-outer.result.clock (c.args.distance + 1));
     }
 
 pub returns-in-On : goal.returns-in-On
@@ -39,11 +39,11 @@ returns-in-On t c =
     (ap (λ x. tests_words (tests_to (d - 1) N x) (c.args.distance + 1) ++ last ∷ []) outer
     ∙ tests_on d N c.in-On.sampler c.in-On.sense c.args.distance positive
     ∙ ap (λ x. tests_words (tests_to d N x) c.args.distance) (sym c.in-On.is))
-    (adds_join c.push-tests.ensures c.push.ensures)
+    (adds_join c.push_tests.ensures c.push.ensures)
 
-pub returns-in-default : goal.returns-in-default
-returns-in-default t c =
+pub returns-in_default : goal.returns-in_default
+returns-in_default t c =
     let N = node_at (table_of c.args.words.now) c.args.k in
     adds_as _ _
-    (sym (ap (λ x. tests_words (tests_to c.args.depth N x) c.args.distance) c.in-default.is ∙ tests_base c.args.depth N c.args.distance))
+    (sym (ap (λ x. tests_words (tests_to c.args.depth N x) c.args.distance) c.in_default.is ∙ tests_base c.args.depth N c.args.distance))
     (adds_none c.args.piece.now)

@@ -1,4 +1,4 @@
 use Rattle.pieces.proofs.tests.+push_tests.Given as goal
 
-abbrev pub decreases-push-tests : goal.decreases-push-tests
-decreases-push-tests l = l.depth
+abbrev pub decreases-push_tests : goal.decreases-push_tests
+decreases-push_tests l = l.depth

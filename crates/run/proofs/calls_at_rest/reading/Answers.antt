@@ -9,8 +9,8 @@ pub returns-in-ByStep : goal.returns-in-ByStep
 returns-in-ByStep g c =
     let ws = c.args.code.now.words.now in
     let cells = c.args.cells.now in
-    let inputs : c.input-count.result ≡ inputs_in ws = c.input-count.ensures ∙ ap inputs_in c.words.ensures.value in
+    let inputs : c.input_count.result ≡ inputs_in ws = c.input_count.ensures ∙ ap inputs_in c.words.ensures.value in
     let sound = subst Sound c.words.ensures.value c.words.ensures.sound in
     sym (ap (λ e. reading_of ws cells e c.args.output) c.in-ByStep.is
     ∙ ap (λ n. slice_get cells (n + c.args.output)) (sym inputs)
-    ∙ slice_get_read cells (length cells) (c.input-count.result + c.args.output) c.index-cells-input-count.result refl (omega (arith, sound.ports, c.requires.room, c.requires.port, inputs)) c.index-cells-input-count.is)
+    ∙ slice_get_read cells (length cells) (c.input_count.result + c.args.output) c.index-cells-input_count.result refl (omega (arith, sound.ports, c.requires.room, c.requires.port, inputs)) c.index-cells-input_count.is)

@@ -10,6 +10,6 @@ inputs-preserved g c =
     let ws = c.args.words.now in
     let offered = c.args.offered.now in
     let i = c.inputs.i in
-    c.give-default.ensures
+    c.give_default.ensures
     ∙ ap (λ cells. cond (get_or offered i false) cells (stored cells i (m.literal (input_type ws i) 0))) c.inputs.invariant
     ∙ ap (λ n. defaulted m ws offered n c.args.cells.now) (sym (add-one i))

@@ -2,8 +2,8 @@ use Rattle.std.proofs.Common.{◌≡◌, ◌-◌, ◌<◌, true, length}
 use Rattle.runner.specs.From.{fine_from, run_from}
 use Rattle.runner.proofs.block.+run_block.Given as goal
 
-abbrev pub decreases-run-block : goal.decreases-run-block
-decreases-run-block g l = l.k
+abbrev pub decreases-run_block : goal.decreases-run_block
+decreases-run_block g l = l.k
 
 abbrev pub invariant-instructions : goal.invariant-instructions
 invariant-instructions g l =

@@ -3,8 +3,8 @@ use Rattle.runner.proofs.Places.{fine_in}
 use Rattle.runner.proofs.Instructions.{unless_cell, unless_on, unless_over}
 use Rattle.runner.proofs.block.pass_tests.Goals as goal
 
-pub offset-bounds-words-p : goal.offset-bounds-words-p
-offset-bounds-words-p g c = let h = fine_in c.args.words.now c.args.k c.args.start c.requires.good in search rules
+pub offset_bounds-words-p : goal.offset_bounds-words-p
+offset_bounds-words-p g c = let h = fine_in c.args.words.now c.args.k c.args.start c.requires.good in search rules
 
 pub bounds-words-p : goal.bounds-words-p
 bounds-words-p g c = fine_in c.args.words.now c.args.k c.args.start c.requires.good
@@ -12,8 +12,8 @@ bounds-words-p g c = fine_in c.args.words.now c.args.k c.args.start c.requires.g
 pub tests-init : goal.tests-init
 tests-init g c = (omega arith, fine_in c.args.words.now c.args.k c.args.start c.requires.good, refl, c.requires.good, c.requires.test, refl)
 
-pub offset-bounds-cells-tested : goal.offset-bounds-cells-tested
-offset-bounds-cells-tested g c =
+pub offset_bounds-cells-tested : goal.offset_bounds-cells-tested
+offset_bounds-cells-tested g c =
     let f = unless_cell c.args.words.now c.args.k c.tests.p c.tests.w c.tests.invariant.3 c.tests.invariant.2 c.tests.invariant.4 in
     let i : c.tested.result < length c.args.cells.now = omega (arith, f, c.tested.ensures, c.requires.room) in search rules
 

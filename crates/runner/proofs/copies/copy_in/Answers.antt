@@ -3,10 +3,10 @@ use Rattle.execution.specs.Cells.{stored}
 use Rattle.execution.specs.Words.{operands_in, program}
 use Rattle.runner.proofs.Copying.{no_operand, operands_copied, take_cell, take_place, take_copied, literal_place, literal_copied}
 use Rattle.runner.proofs.copies.copy_in.Goals as goal
-use Rattle.runner.proofs.copies.copy_in.Goals.{in-9, in-10+in-Some, in-10+in-default-literal}
+use Rattle.runner.proofs.copies.copy_in.Goals.{in-9, in-10+in-Some, in-10+in_default-literal}
 
-pub offset-bounds-cells-variable : goal.offset-bounds-cells-variable
-offset-bounds-cells-variable g c =
+pub offset_bounds-cells-variable : goal.offset_bounds-cells-variable
+offset_bounds-cells-variable g c =
     let here : c.args.p + c.operands.i < length c.args.words.now = omega (arith, c.operands.invariant.count, c.requires.behind) in
     let l = take_cell g.S.OperatorSet.meaning c.args.words.now c.args.cells.now c.operands.cells c.args.p c.args.at c.operands.i (get_or c.args.words.now (c.args.p + c.operands.i) 0) here refl c.operands.invariant (sym c.kind.ensures ∙ c.in-9.is) in
     let i : c.variable.result < length c.operands.cells = omega (arith, l, c.variable.ensures) in search rules
@@ -29,8 +29,8 @@ bounds-cells-at-in-Some g c =
     let room : c.args.at + length (operands_in (drop c.args.p (program c.args.words.now))) ≤ length c.operands.cells = omega (arith, c.requires.room, c.operands.auto.cells) in
     literal_place g.S.OperatorSet.meaning c.args.words.now c.args.cells.now c.operands.cells c.args.p c.args.at c.operands.i (get_or c.args.words.now (c.args.p + c.operands.i) 0) here refl c.operands.invariant (sym c.kind.ensures ∙ c.in-10.is) room
 
-pub returns-in-default : goal.returns-in-default
-returns-in-default g c =
+pub returns-in_default : goal.returns-in_default
+returns-in_default g c =
     let here : c.args.p + c.operands.i < length c.args.words.now = omega (arith, c.operands.invariant.count, c.requires.behind) in
     let ws = c.args.words.now in
     let none = no_operand ws c.args.p c.operands.i (get_or ws (c.args.p + c.operands.i) 0) here refl (λ e. omega (arith, c.kind.ensures)) (λ e. omega (arith, c.kind.ensures)) in
@@ -48,8 +48,8 @@ operands-preserved g c =
           w.variable.result w.index-cells-variable.result c.match-kind.cells (sym c.kind.ensures ∙ w.in-9.is) w.variable.ensures w.index-cells-variable.is w.cells-is
       | in-10+in-Some w ↦
           literal_copied g.S.OperatorSet.meaning c.args.words.now c.args.cells.now c.operands.cells c.args.p c.args.at c.operands.i (get_or c.args.words.now (c.args.p + c.operands.i) 0) here refl c.operands.invariant
-          w.literal-in-l.result w.literal.result c.match-kind.cells (sym c.kind.ensures ∙ w.in-10.is) w.literal-in-l.ensures w.literal.ensures (w.cells-is ∙ ap (stored cells to) (sym w.in-Some.is))
-      | in-10+in-default-literal w ↦
+          w.literal_in-l.result w.literal.result c.match-kind.cells (sym c.kind.ensures ∙ w.in-10.is) w.literal_in-l.ensures w.literal.ensures (w.cells-is ∙ ap (stored cells to) (sym w.in-Some.is))
+      | in-10+in_default-literal w ↦
           literal_copied g.S.OperatorSet.meaning c.args.words.now c.args.cells.now c.operands.cells c.args.p c.args.at c.operands.i (get_or c.args.words.now (c.args.p + c.operands.i) 0) here refl c.operands.invariant
-          w.literal-in-l.result w.literal.result c.match-kind.cells (sym c.kind.ensures ∙ w.in-10.is) w.literal-in-l.ensures w.literal.ensures (w.cells-is ∙ ap (stored cells to) (sym w.in-default-literal.is))
+          w.literal_in-l.result w.literal.result c.match-kind.cells (sym c.kind.ensures ∙ w.in-10.is) w.literal_in-l.ensures w.literal.ensures (w.cells-is ∙ ap (stored cells to) (sym w.in_default-literal.is))
     ]

@@ -9,8 +9,8 @@ bounds-cells-at g c =
     let room : c.args.at + length (gives_in (drop c.args.p (program c.args.words.now))) ≤ length c.gives.cells = omega (arith, c.requires.room, c.gives.auto.cells) in
     give_place c.args.words.now c.args.cells.now c.gives.cells c.args.p c.args.at c.gives.i c.gives.w here c.gives.invariant.0 (sym c.kind.ensures ∙ c.gives-test.true) c.gives.invariant.1 room
 
-pub offset-bounds-cells-variable : goal.offset-bounds-cells-variable
-offset-bounds-cells-variable g c =
+pub offset_bounds-cells-variable : goal.offset_bounds-cells-variable
+offset_bounds-cells-variable g c =
     let here : c.args.p + c.gives.i < length c.args.words.now = omega (arith, c.gives.invariant.1.count, c.requires.behind) in
     let l = give_cell c.args.words.now c.args.cells.now c.gives.cells c.args.p c.args.at c.gives.i c.gives.w here c.gives.invariant.0 (sym c.kind.ensures ∙ c.gives-test.true) c.gives.invariant.1 in
     let i : c.variable.result < length c.gives.cells = omega (arith, l, c.variable.ensures) in search rules

@@ -4,8 +4,8 @@ use Rattle.runner.proofs.Places.{fine_in}
 use Rattle.runner.proofs.Instructions.{operates, operate_reaches}
 use Rattle.runner.proofs.operate.operate_all.Goals as goal
 
-pub offset-bounds-words-p : goal.offset-bounds-words-p
-offset-bounds-words-p g c = let h = fine_in c.args.words.now c.args.k c.args.start c.requires.good in search rules
+pub offset_bounds-words-p : goal.offset_bounds-words-p
+offset_bounds-words-p g c = let h = fine_in c.args.words.now c.args.k c.args.start c.requires.good in search rules
 
 pub bounds-words-p : goal.bounds-words-p
 bounds-words-p g c = fine_in c.args.words.now c.args.k c.args.start c.requires.good

@@ -15,8 +15,8 @@ use Rattle.translation.proofs.whole.translate.Goals as goal
 planned_as : (ws vs : List ℕ) (p : Plan) → ws ≡ vs → Planned vs p → Planned ws p
 planned_as ws vs p e P = let F : List ℕ → Type 0 = λ l. Planned l p in subst F (sym e) P
 
-pub write-front-next-requires : goal.write-front-next-requires
-write-front-next-requires c =
+pub write_front-next-requires : goal.write_front-next-requires
+write_front-next-requires c =
     let ws = c.words-words.result.now in
     let D = c.in-Some.ensures in
     let fit = fits_bounds (table_code ws) (length c.args.buffer.now) D.fits in
@@ -27,15 +27,15 @@ write-front-next-requires c =
       room = omega (arith, code_length ws, fit.1);
     }
 
-pub write-blocks-requires : goal.write-blocks-requires
-write-blocks-requires c =
+pub write_blocks-requires : goal.write_blocks-requires
+write_blocks-requires c =
     let ws = c.words-words.result.now in
     let T = table_of ws in
     let own = field (get_or ws 0 0) 0 8 in
     let fit = fits_bounds (table_code ws) (length c.args.buffer.now) c.in-Some.ensures.fits in
     record {
       planned = planned_as ws c.args.table.now.words.now c.plan-plan.result.now c.words-words.ensures c.plan-plan.ensures.planned;
-      room = omega (arith, c.write-front-next.ensures.place, front_length_lem own T, code_length ws, fit.1, c.write-front-next.auto.buffer);
+      room = omega (arith, c.write_front-next.ensures.place, front_length_lem own T, code_length ws, fit.1, c.write_front-next.auto.buffer);
     }
 
 pub returns-in-Some : goal.returns-in-Some
@@ -47,8 +47,8 @@ returns-in-Some c =
     let code = table_code ws in
     let fits = c.in-Some.ensures.fits in
     let fit = fits_bounds code (length b) fits in
-    let whole = wrote_join c.write-front-next.ensures c.write-blocks.ensures (omega (arith, front_length_lem own T, code_length ws, fit.1)) in
-    let w = wrote_code (front own T) (blocks T (length T)) code b c.write-blocks.result c.write-blocks.new.buffer (code_parts ws) whole in
+    let whole = wrote_join c.write_front-next.ensures c.write_blocks.ensures (omega (arith, front_length_lem own T, code_length ws, fit.1)) in
+    let w = wrote_code (front own T) (blocks T (length T)) code b c.write_blocks.result c.write_blocks.new.buffer (code_parts ws) whole in
     let same : code ≡ table_code c.args.table.now.words.now = ap table_code c.words-words.ensures in
     record {
       answer = ap Ok w.0 ∙ sym (ap (λ t. cond t (Ok (length code)) (Err TooLong)) fits) ∙ ap (λ x. translate_answer x b) same;

@@ -13,18 +13,18 @@ pieces-init c =
     wrote_as (sym (run_none (block_piece (table_of c.args.words.now) c.args.k c.args.block))) (wrote_none c.args.at c.args.buffer.now)
 
 -- the piece ends within the block
-pub write-piece-next-requires : goal.write-piece-next-requires
-write-piece-next-requires c =
+pub write_piece-next-requires : goal.write_piece-next-requires
+write_piece-next-requires c =
     let ws = c.args.words.now in
     let T = table_of ws in
     let k = c.args.k in
     let b = c.args.block in
     let f = block_piece T k b in
     let all = ap length (block_pieces T k (order_long ws c.args.plan.now c.requires.planned k c.requires.node) b) in
-    let within = run_within f c.pieces.j (piece_count (node_at T k) b) (omega (arith, c.piece-count-j-end.ensures)) in
+    let within = run_within f c.pieces.j (piece_count (node_at T k) b) (omega (arith, c.piece_count-j-end.ensures)) in
     record {
-      whole = piece_whole c.block-piece-piece.result (f c.pieces.j) c.block-piece-piece.ensures;
-      room = omega (arith, c.pieces.invariant.place, c.block-piece-piece.ensures.count, within, all, c.requires.room, c.pieces.auto.buffer);
+      whole = piece_whole c.block_piece-piece.result (f c.pieces.j) c.block_piece-piece.ensures;
+      room = omega (arith, c.pieces.invariant.place, c.block_piece-piece.ensures.count, within, all, c.requires.room, c.pieces.auto.buffer);
     }
 
 pub pieces-preserved : goal.pieces-preserved
@@ -36,9 +36,9 @@ pieces-preserved c =
     let j = c.pieces.j in
     let f = block_piece T k b in
     let all = ap length (block_pieces T k (order_long ws c.args.plan.now c.requires.planned k c.requires.node) b) in
-    let within = run_within f j (piece_count (node_at T k) b) (omega (arith, c.piece-count-j-end.ensures)) in
-    let added = wrote_piece c.pieces.next c.pieces.buffer c.write-piece-next.result c.write-piece-next.new.buffer
-    c.block-piece-piece.ensures c.write-piece-next.ensures.place c.write-piece-next.ensures.stands in
+    let within = run_within f j (piece_count (node_at T k) b) (omega (arith, c.piece_count-j-end.ensures)) in
+    let added = wrote_piece c.pieces.next c.pieces.buffer c.write_piece-next.result c.write_piece-next.new.buffer
+    c.block_piece-piece.ensures c.write_piece-next.ensures.place c.write_piece-next.ensures.stands in
     wrote_as (sym (run_more f j)) (wrote_join c.pieces.invariant added (omega (arith, within, all, c.requires.room)))
 
 pub returns : goal.returns
@@ -47,5 +47,5 @@ returns c =
     let T = table_of ws in
     let k = c.args.k in
     let b = c.args.block in
-    let all : c.pieces.j ≡ piece_count (node_at T k) b = omega (arith, c.piece-count-j-end.ensures) in
+    let all : c.pieces.j ≡ piece_count (node_at T k) b = omega (arith, c.piece_count-j-end.ensures) in
     wrote_as (ap (up_to (block_piece T k b)) all ∙ block_pieces T k (order_long ws c.args.plan.now c.requires.planned k c.requires.node) b) c.pieces.invariant

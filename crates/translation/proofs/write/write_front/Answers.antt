@@ -14,16 +14,16 @@ pieces-init c =
     wrote_as (sym (run_none (front_piece (field (get_or ws 0 0) 0 8) (table_of ws)))) (wrote_none 0 c.args.buffer.now)
 
 -- the piece ends within the front
-pub write-piece-next-requires : goal.write-piece-next-requires
-write-piece-next-requires c =
+pub write_piece-next-requires : goal.write_piece-next-requires
+write_piece-next-requires c =
     let ws = c.args.words.now in
     let T = table_of ws in
     let own = field (get_or ws 0 0) 0 8 in
     let f = front_piece own T in
     let within = run_within f c.pieces.j (1 + (length T + 1)) (omega (arith, c.requires.planned.described.spells.outlines.nodes)) in
     record {
-      whole = piece_whole c.front-piece-piece.result (f c.pieces.j) c.front-piece-piece.ensures;
-      room = omega (arith, c.pieces.invariant.place, c.front-piece-piece.ensures.count, within, ap length (front_pieces T own), front_length_lem own T, c.requires.room, c.pieces.auto.buffer);
+      whole = piece_whole c.front_piece-piece.result (f c.pieces.j) c.front_piece-piece.ensures;
+      room = omega (arith, c.pieces.invariant.place, c.front_piece-piece.ensures.count, within, ap length (front_pieces T own), front_length_lem own T, c.requires.room, c.pieces.auto.buffer);
     }
 
 pub pieces-preserved : goal.pieces-preserved
@@ -34,8 +34,8 @@ pieces-preserved c =
     let j = c.pieces.j in
     let f = front_piece own T in
     let within = run_within f j (1 + (length T + 1)) (omega (arith, c.requires.planned.described.spells.outlines.nodes)) in
-    let added = wrote_piece c.pieces.next c.pieces.buffer c.write-piece-next.result c.write-piece-next.new.buffer
-    c.front-piece-piece.ensures c.write-piece-next.ensures.place c.write-piece-next.ensures.stands in
+    let added = wrote_piece c.pieces.next c.pieces.buffer c.write_piece-next.result c.write_piece-next.new.buffer
+    c.front_piece-piece.ensures c.write_piece-next.ensures.place c.write_piece-next.ensures.stands in
     wrote_as (sym (run_more f j)) (wrote_join c.pieces.invariant added (omega (arith, within, ap length (front_pieces T own), front_length_lem own T, c.requires.room)))
 
 pub returns : goal.returns

@@ -11,7 +11,7 @@ returns c =
     let b = c.args.buffer.now in
     let at = c.args.at in
     let n = p.len in
-    let same : c.copy-from-slice.new.self ≡ contents p = search rules in
+    let same : c.copy_from_slice.new.self ≡ contents p = search rules in
     let behind : at + (at + n - at) ≡ at + length (contents p) = omega (arith, length-take-le n p.words c.requires.whole) in
     record {
       place = refl;
