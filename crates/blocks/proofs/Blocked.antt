@@ -1,7 +1,6 @@
 -- The pieces of a block are the block.
-use Rattle.std.proofs.Common.{◌≡◌, ℕ, zero, suc, ◌+◌, ◌-◌, ◌<◌, ◌≤◌, List, [], ◌∷◌, ◌++◌, length, sym, refl, ap, ◌∙◌, arith, le-ltb, lt-ltb}
+use Rattle.std.proofs.Common.{◌≡◌, ℕ, zero, suc, ◌+◌, ◌-◌, ◌<◌, ◌≤◌, [], ◌∷◌, ◌++◌, length, sym, refl, ap, ◌∙◌, arith, le-ltb, lt-ltb}
 use Rattle.std.proofs.lemmas.List.{append_assoc}
-use Rattle.instructions.specs.declared.code_word.CodeWord.{CodeWord}
 use Rattle.instructions.specs.declared.code_word.CodeWord.TheVariants.{End}
 use Rattle.table.specs.Syntax.{Node, Table, node_at, equation_at, equation_count}
 use Rattle.schedule.specs.Need.{needs}

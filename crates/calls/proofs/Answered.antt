@@ -1,15 +1,14 @@
 -- Every call that is made of a run is answered rightly.
-use Rattle.std.proofs.Common.{◌≡◌, ℕ, zero, suc, ◌+◌, ◌-◌, ◌<◌, ◌≤◌, Bool, true, false, cond, not, eqb, ltb, leb, ◌⊎◌, List, [], ◌∷◌, ◌++◌, length, get_or, set, replicate, is_some, Some, None, Ok, Err, Option, Result, sym, refl, ap, ◌∙◌, subst, inl, inr, arith, length-set}
+use Rattle.std.proofs.Common.{◌≡◌, ℕ, zero, suc, ◌+◌, ◌-◌, ◌<◌, ◌≤◌, Bool, true, false, cond, not, ltb, List, [], ◌∷◌, ◌++◌, length, get_or, set, replicate, is_some, Some, None, Ok, Err, Option, Result, sym, refl, ap, ◌∙◌, subst, inl, inr, arith, length-set}
 use Rattle.std.proofs.lemmas.Bool.{cases_eq, eq-eqb, ne_eqb, ltb-true, leb-true}
 use Rattle.std.proofs.lemmas.List.{get_or-set_same, get_or-set_other}
 use Rattle.std.specs.List.{slice_get}
 use Rattle.opset.specs.Meaning.{Meaning, Laws}
 use Rattle.table.specs.Syntax.{Node, Table, variable_count}
 use Rattle.rules.specs.Types.{type_of, variable_typed}
-use Rattle.rules.specs.First.{or_else}
 use Rattle.schedule.specs.Need.{needs}
 use Rattle.streams.specs.Streams.{Env}
-use Rattle.streams.specs.History.{History, main, row, idle, restart as restarted-event}
+use Rattle.streams.specs.History.{main, row, idle, restart as restarted-event}
 use Rattle.streams.specs.Statements.{MachineShows, StreamsTyped}
 use Rattle.execution.specs.Words.{need_at, reset_by, step_by}
 use Rattle.execution.specs.Sound.{main_in, inputs_in, outputs_in}
@@ -20,15 +19,15 @@ use Rattle.realization.proofs.Cells.{stored_here, stored_other}
 use Rattle.calls.specs.declared.ended.Ended.{Ended}
 use Rattle.calls.specs.declared.ended.Ended.TheVariants.{Never, ByStep, ByPass}
 use Rattle.calls.specs.declared.refusal.Refusal.{Refusal}
-use Rattle.calls.specs.declared.refusal.Refusal.TheVariants.{Set, Memory, Port, Mistyped, Early, Twice}
-use Rattle.calls.specs.Calls.{State, at_rest, in_instant, none_offered, unless, outcome, granted, set_refusal, enough, moving_refusal, offer_refusal, read_refusal, has_ended, defaulted, stepped_by, reading_of, Opens, BeginsInstant, Offers, Steps, Passes, Restarts, Reads}
-use Rattle.calls.specs.Story.{Kind, Ask, begin, offer, step, pass, restart, read, foreign, Answer, done, value, refused, Call, Story, offers_in, offered_also, input_of, row_of, story_of}
+use Rattle.calls.specs.declared.refusal.Refusal.TheVariants.{Memory, Port, Mistyped, Early, Twice}
+use Rattle.calls.specs.Calls.{State, at_rest, in_instant, none_offered, unless, outcome, set_refusal, enough, moving_refusal, offer_refusal, read_refusal, has_ended, defaulted, reading_of, Opens, BeginsInstant, Offers, Steps, Passes, Restarts, Reads}
+use Rattle.calls.specs.Story.{Ask, begin, offer, step, pass, restart, read, Answer, done, value, refused, Call, Story, offers_in, offered_also, input_of, row_of, story_of}
 use Rattle.calls.specs.Answers.{main_node, refusal_for, Shows, GrantedRight, RightBy, Right}
 use Rattle.calls.specs.Made.{Made, opened, begun, begin_refused, offered, offer_refused, stepped, step_refused, passed, pass_refused, restarted, restart_refused, was_read, read_refused, foreign_begin, foreign_offer, foreign_step, foreign_pass, foreign_restart, foreign_read}
 use Rattle.calls.proofs.Tests.{ok_none, ok_same, err_some, granted_none, granted_some, both_none, unless_none}
 use Rattle.calls.proofs.Rows.{row_at_lem}
 use Rattle.calls.proofs.Inputs.{Offered, filled_in, row_fits, input_valued}
-use Rattle.calls.proofs.Invariant.{EndedRight, Inv, inputs_free, was_opened, was_passed, was_restarted, was_stepped}
+use Rattle.calls.proofs.Invariant.{Inv, inputs_free, was_opened, was_passed, was_restarted, was_stepped}
 use Rattle.calls.proofs.Refused.{set_right, moving_right, offer_right, read_right}
 use Rattle.calls.proofs.Readings.{reading_shows}
 

@@ -1,5 +1,5 @@
 -- The inputs with which a step begins: what they were offered, else payload 0 of their type.
-use Rattle.std.proofs.Common.{◌≡◌, ℕ, zero, suc, ◌+◌, ◌<◌, ◌≤◌, Bool, true, false, cond, ◌&&◌, ◌⊎◌, List, [], ◌∷◌, ◌++◌, length, get_or, is_some as option_is_some, Some, None, Option, sym, refl, ap, ◌∙◌, inl, inr, arith}
+use Rattle.std.proofs.Common.{◌≡◌, ℕ, zero, suc, ◌<◌, ◌≤◌, Bool, true, false, cond, List, length, get_or, is_some as option_is_some, Some, None, Option, sym, refl, ap, ◌∙◌, inl, inr, arith}
 use Rattle.std.proofs.lemmas.Bool.{cases_eq, cases_lt, and_parts, true≢false, false≢true}
 use Rattle.std.proofs.lemmas.Option.{slice_get_past}
 use Rattle.std.specs.List.{slice_get}
@@ -13,7 +13,7 @@ use Rattle.execution.specs.Cells.{stored}
 use Rattle.execution.specs.Sound.{input_type}
 use Rattle.realization.proofs.Cells.{length_stored, stored_here, stored_other}
 use Rattle.calls.specs.Calls.{defaulted}
-use Rattle.calls.specs.Story.{input_of, row_of, row_values}
+use Rattle.calls.specs.Story.{input_of, row_of}
 use Rattle.calls.proofs.Rows.{Valued, row_long, row_at_lem}
 
 -- in an instant: the marks are of the inputs that were offered a value, and their cells have it

@@ -1,29 +1,19 @@
 -- What holds of a run between its calls: its cells hold the memory of the machine after the history, and the outputs of the latest instant.
-use Rattle.std.proofs.Common.{◌≡◌, ℕ, zero, suc, ◌+◌, ◌-◌, ◌<◌, ◌≤◌, Bool, true, false, cond, ◌⊎◌, List, [], ◌∷◌, ◌++◌, length, get_or, is_some, Some, None, Option, sym, refl, ap, ◌∙◌, subst, inl, inr, arith}
+use Rattle.std.proofs.Common.{◌≡◌, ℕ, ◌+◌, ◌-◌, ◌<◌, ◌≤◌, true, List, [], ◌∷◌, ◌++◌, length, get_or, is_some, None, sym, refl, ap, ◌∙◌, subst, arith}
 use Rattle.std.specs.List.{AllByRecursion, slice_get}
-use Rattle.opset.specs.Meaning.{Meaning, Laws}
-use Rattle.table.specs.Syntax.{Node, Table, node_at, variable_count}
-use Rattle.rules.specs.Types.{type_of}
+use Rattle.opset.specs.Meaning.{Meaning}
+use Rattle.table.specs.Syntax.{Node, Table}
 use Rattle.schedule.specs.Need.{needs}
-use Rattle.admission.specs.Keeps.{KeepsRules}
-use Rattle.streams.specs.Streams.{Env}
 use Rattle.streams.specs.History.{Event, row, idle, restart, History, instants, row_at, main, RowFits, EventFits, HistoryLong, HistoryFits}
 use Rattle.streams.specs.Machine.{Machine, memory_after, history_shows, main_machine}
-use Rattle.streams.specs.Statements.{MachineShows, StreamsTyped}
+use Rattle.streams.specs.Statements.{MachineShows}
 use Rattle.streams.proofs.Growing.{row_instants, idle_instants, restart_instants, row_at_lem as latest-row, row_stays}
-use Rattle.execution.specs.Words.{need_at, reset_by, step_by}
-use Rattle.execution.specs.Sound.{main_in, inputs_in, outputs_in}
 use Rattle.execution.specs.Statements.{reset_of, step_of, table_blocks}
-use Rattle.layout.specs.Layout.{Front, Runs}
 use Rattle.realization.specs.Holds.{Holds}
-use Rattle.realization.specs.Realizes.{Realizes, WasReset, WasStepped}
+use Rattle.realization.specs.Realizes.{Realizes}
 use Rattle.calls.specs.declared.ended.Ended.{Ended}
 use Rattle.calls.specs.declared.ended.Ended.TheVariants.{Never, ByStep, ByPass}
-use Rattle.calls.specs.Calls.{defaulted, stepped_by}
-use Rattle.calls.specs.Story.{row_of, input_of}
 use Rattle.calls.specs.Answers.{main_node}
-use Rattle.calls.proofs.Rows.{row_at_lem}
-use Rattle.calls.proofs.Inputs.{Offered, FilledIn, filled_in, row_fits, input_valued}
 
 -- one event more
 fits_more : {V : Type 0} (m : Meaning V) (N : Node) (h : History V) (e : Event V) → AllByRecursion (EventFits m N) h → EventFits m N e → AllByRecursion (EventFits m N) (h ++ e ∷ [])

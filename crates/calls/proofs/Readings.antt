@@ -1,5 +1,5 @@
 -- A granted reading is what the masked streams of the history show.
-use Rattle.std.proofs.Common.{◌≡◌, ℕ, zero, suc, ◌+◌, ◌-◌, ◌<◌, ◌≤◌, Bool, true, false, List, [], ◌∷◌, length, get_or, is_some, Some, None, Option, sym, refl, ap, ◌∙◌, subst, arith}
+use Rattle.std.proofs.Common.{◌≡◌, ℕ, zero, suc, ◌+◌, ◌-◌, ◌<◌, ◌≤◌, true, List, [], ◌∷◌, length, get_or, is_some, Some, None, Option, sym, refl, ap, ◌∙◌, subst, arith}
 use Rattle.std.proofs.lemmas.Bool.{false≢true}
 use Rattle.std.specs.List.{slice_get}
 use Rattle.opset.specs.Meaning.{Meaning}
@@ -14,7 +14,7 @@ use Rattle.calls.specs.declared.ended.Ended.{Ended}
 use Rattle.calls.specs.declared.ended.Ended.TheVariants.{Never, ByStep, ByPass}
 use Rattle.calls.specs.Calls.{has_ended, reading_of}
 use Rattle.calls.specs.Answers.{main_node, Fitting, Shows}
-use Rattle.calls.proofs.Invariant.{EndedRight, Inv}
+use Rattle.calls.proofs.Invariant.{Inv}
 
 nth_within : {X : Type 0} (l : List X) (i : ℕ) → i < length l → (x : X) × (slice_get l i ≡ Some x)
 nth_within [] i h = absurd (omega arith)

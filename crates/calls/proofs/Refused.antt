@@ -1,5 +1,5 @@
 -- The refusals by the code's words are those that the rules name.
-use Rattle.std.proofs.Common.{◌≡◌, ℕ, ◌<◌, ◌≤◌, Bool, true, false, not, eqb, ltb, leb, ◌⊎◌, List, length, get_or, is_some, Some, None, Option, sym, refl, ap, ◌∙◌, inl, inr, arith}
+use Rattle.std.proofs.Common.{◌≡◌, ℕ, ◌<◌, ◌≤◌, Bool, false, not, ltb, ◌⊎◌, List, get_or, is_some, Some, None, Option, sym, ap, ◌∙◌, inl, inr, arith}
 use Rattle.std.proofs.lemmas.Bool.{cases_lt, eq-eqb, lt-ltb, le-ltb}
 use Rattle.opset.specs.Meaning.{Meaning}
 use Rattle.table.specs.Syntax.{Table}
@@ -14,7 +14,7 @@ use Rattle.calls.specs.declared.ended.Ended.TheVariants.{Never, ByStep, ByPass}
 use Rattle.calls.specs.declared.refusal.Refusal.{Refusal}
 use Rattle.calls.specs.declared.refusal.Refusal.TheVariants.{Set, Memory, Port, Mistyped, Early, Twice}
 use Rattle.calls.specs.Calls.{unless, set_refusal, enough, memory_refusal, moving_refusal, offer_refusal, read_refusal, has_ended}
-use Rattle.calls.specs.Story.{Ask, offer, step, restart, read, Story, offers_in}
+use Rattle.calls.specs.Story.{offer, read, Story, offers_in}
 use Rattle.calls.specs.Answers.{main_node, refusal_for}
 use Rattle.calls.proofs.Inputs.{Offered}
 use Rattle.calls.proofs.Invariant.{EndedRight}

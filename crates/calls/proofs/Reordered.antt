@@ -1,17 +1,17 @@
 -- Equal calls get equal answers, where two tables differ only in the order of their equations.
-use Rattle.std.proofs.Common.{◌≡◌, ℕ, ◌+◌, ◌-◌, ◌<◌, ◌≤◌, Bool, true, false, not, ltb, List, [], ◌∷◌, ◌++◌, length, get_or, is_some, Some, None, Option, sym, refl, ap, ◌∙◌, subst, ap₂, arith}
+use Rattle.std.proofs.Common.{◌≡◌, ℕ, ◌+◌, ◌-◌, ◌<◌, ◌≤◌, not, ltb, List, [], ◌∷◌, ◌++◌, get_or, is_some, Some, None, Option, sym, refl, ap, ◌∙◌, subst, ap₂, arith}
 use Rattle.std.proofs.lemmas.Bool.{ltb-true}
 use Rattle.opset.specs.Meaning.{Meaning}
 use Rattle.words.specs.declared.kinds.Clock.TheVariants.{Base}
 use Rattle.words.specs.declared.kinds.Variable.{Variable}
-use Rattle.table.specs.Syntax.{Node, Table, node_at, variable_count}
+use Rattle.table.specs.Syntax.{Node, Table, variable_count}
 use Rattle.rules.specs.Types.{type_of}
 use Rattle.rules.specs.First.{or_else}
 use Rattle.streams.specs.History.{History, row, instants, MaskedStreams}
 use Rattle.streams.specs.Streams.{Streams}
 use Rattle.streams.specs.Reordered.{ReorderedNode}
 use Rattle.calls.specs.declared.refusal.Refusal.{Refusal}
-use Rattle.calls.specs.declared.refusal.Refusal.TheVariants.{Set, Memory, Port, Mistyped, Early, Twice}
+use Rattle.calls.specs.declared.refusal.Refusal.TheVariants.{Memory, Port, Mistyped, Early, Twice}
 use Rattle.calls.specs.Calls.{unless}
 use Rattle.calls.specs.Story.{Ask, begin, offer, step, pass, restart, read, foreign, Answer, done, value, refused, Call, Story, at_rest, offers_in, row_of, row_values, goes_on, grows, story_of}
 use Rattle.calls.specs.Answers.{main_node, refusal_for, Shows, GrantedRight, RightBy, Right}

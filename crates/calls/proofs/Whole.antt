@@ -1,8 +1,7 @@
 -- The promise is kept.
-use Rattle.std.proofs.Common.{◌≡◌, ℕ, ◌+◌, ◌-◌, ◌<◌, ◌≤◌, List, length, get_or, sym, refl, ap, ◌∙◌, subst, arith}
+use Rattle.std.proofs.Common.{ℕ, ◌-◌, ◌<◌, List, length, ap, subst, arith}
 use Rattle.opset.specs.Meaning.{Meaning, Laws}
-use Rattle.table.specs.Syntax.{Table, node_at, variable_count}
-use Rattle.schedule.specs.Need.{needs}
+use Rattle.table.specs.Syntax.{Table, node_at}
 use Rattle.admission.specs.Keeps.{KeepsRules}
 use Rattle.streams.specs.History.{main}
 use Rattle.streams.specs.Reordered.{Reordered, ReorderedNode}

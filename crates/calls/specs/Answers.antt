@@ -1,10 +1,10 @@
 -- Which answer is right: the rules say when a call is refused, and the masked streams of the history say what a reading shows.
-use Rattle.std.specs.Prelude.{◌≡◌, ℕ, ◌+◌, ◌-◌, Bool, true, not, List, [], ◌∷◌, length, is_some, Some, None, Option, nat_lt}
+use Rattle.std.specs.Prelude.{◌≡◌, ℕ, ◌+◌, ◌-◌, true, not, List, [], ◌∷◌, is_some, Some, None, Option, nat_lt}
 use Rattle.opset.specs.Meaning.{Meaning}
 use Rattle.table.specs.Syntax.{Node, Table, node_at}
 use Rattle.rules.specs.Types.{type_of}
 use Rattle.rules.specs.First.{or_else}
-use Rattle.streams.specs.Streams.{Env, Streams}
+use Rattle.streams.specs.Streams.{Streams}
 use Rattle.streams.specs.History.{History, instants, row_at, main, MaskedStreams}
 use Rattle.calls.specs.declared.refusal.Refusal.{Refusal}
 use Rattle.calls.specs.declared.refusal.Refusal.TheVariants.{Set, Memory, Port, Mistyped, Early, Twice}

@@ -1,11 +1,11 @@
 -- The calls that are made of a run since it was opened, each by its own contract: `cells` is the memory that the granted ones share and that nothing else writes. A refused call may be given any memory.
-use Rattle.std.specs.Prelude.{◌≡◌, ℕ, Bool, List, [], ◌∷◌, Ok, Err, Option}
+use Rattle.std.specs.Prelude.{ℕ, Bool, List, [], ◌∷◌, Ok, Err, Option}
 use Rattle.opset.specs.Meaning.{Meaning}
 use Rattle.calls.specs.declared.refusal.Refusal.{Refusal}
 use Rattle.calls.specs.declared.refusal.Refusal.TheVariants.{Set}
 use Rattle.calls.specs.declared.ended.Ended.{Ended}
 use Rattle.calls.specs.Calls.{State, at_rest, in_instant, enough, Opens, BeginsInstant, Offers, Steps, Passes, Restarts, Reads}
-use Rattle.calls.specs.Story.{Kind, beginning, offering, stepping, passing, restarting, reading, Ask, begin, offer, step, pass, restart, read, foreign, Answer, done, value, refused, Call}
+use Rattle.calls.specs.Story.{beginning, offering, stepping, passing, restarting, reading, Ask, begin, offer, step, pass, restart, read, foreign, Answer, done, value, refused, Call}
 
 abbrev pub made : {V : Type 0} → Ask V → Answer V → Call V
 made ask answer = record { ask = ask; answer = answer }

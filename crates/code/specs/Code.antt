@@ -1,5 +1,5 @@
 -- The code of a table: its statements as words, in their places.
-use Rattle.std.specs.Prelude.{ℕ, zero, suc, ◌+◌, ◌-◌, ◌*◌, Bool, true, List, [], ◌∷◌, ◌++◌, map, length, Some, None, Option, slice_index}
+use Rattle.std.specs.Prelude.{ℕ, zero, suc, ◌+◌, ◌-◌, ◌*◌, true, List, [], ◌∷◌, ◌++◌, map, length, Some, None, Option, slice_index}
 use Rattle.words.specs.declared.kinds.Operand.{Operand}
 use Rattle.words.specs.declared.kinds.Operand.TheVariants.{Literal as Constant}
 use Rattle.instructions.specs.declared.code_word.CodeWord.{CodeWord}

@@ -1,5 +1,5 @@
 -- The statements of a node's two blocks.
-use Rattle.std.specs.Prelude.{ℕ, zero, suc, ◌+◌, Bool, true, List, [], ◌∷◌, ◌++◌, length, get_or, take, Some, None, Option}
+use Rattle.std.specs.Prelude.{ℕ, zero, suc, ◌+◌, Bool, true, List, [], ◌∷◌, ◌++◌, take, Some, None, Option}
 use Rattle.words.specs.declared.kinds.Clock.{Clock}
 use Rattle.words.specs.declared.kinds.Clock.TheVariants.{Base, On}
 use Rattle.words.specs.declared.kinds.Operand.{Operand}

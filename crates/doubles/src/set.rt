@@ -1,8 +1,7 @@
-// Set 2 as a set of operators: booleans beside the numbers of `DoublesArithmetic`.
-ghost use Rattle.std.specs.Prelude.{◌≡◌};
+// Set 2 as a set of operators: booleans beside the numbers of its `ScalarArithmetic`.
+ghost use Rattle.std.specs.Prelude.{◌≡◌, refl};
 ghost use Rattle.doubles.specs.Set.{doubles_meaning, doubles};
-ghost use Rattle.std.proofs.Common.{arith};
-ghost use Rattle.opset.proofs.Lawful.{scalars_lawful};
+ghost use Rattle.opset.proofs.Lawful.{lawful_of};
 
 use opset::{OperatorSet, Scalar, ScalarArithmetic, scalar_apply, scalar_literal};
 
@@ -17,7 +16,7 @@ impl OperatorSet for Doubles {
 
     ghost meaning = { doubles_meaning };
 
-    ghost lawful = { scalars_lawful doubles (λ e. omega arith) };
+    ghost lawful = { lawful_of doubles refl };
 
     fn set_number() -> u8 {
         Self::NUMBER

@@ -1,5 +1,5 @@
 -- How large an admitted table is.
-use Rattle.std.specs.Prelude.{ℕ, ◌-◌, length, Some, None, Ok, Err, Option, Result, slice_index}
+use Rattle.std.specs.Prelude.{◌-◌, length, Some, None, Ok, Err, Option, Result, slice_index}
 use Rattle.table.specs.Syntax.{Table}
 use Rattle.schedule.specs.Need.{needs}
 use Rattle.drawing.specs.declared.verdict.Extent.{Extent}

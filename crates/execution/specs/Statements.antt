@@ -1,5 +1,5 @@
 -- What statements do to cells.
-use Rattle.std.specs.Prelude.{ℕ, zero, suc, Bool, true, cond, ◌&&◌, List, [], ◌∷◌, Some, None, Option, ◌==◌}
+use Rattle.std.specs.Prelude.{ℕ, zero, suc, Bool, true, cond, ◌&&◌, List, [], ◌∷◌, Some, None, ◌==◌}
 use Rattle.std.specs.List.{slice_get}
 use Rattle.opset.specs.Meaning.{Meaning}
 use Rattle.table.specs.Syntax.{Table, node_at}

@@ -1,11 +1,10 @@
 -- The pieces of the front are the front.
-use Rattle.std.proofs.Common.{◌≡◌, ℕ, zero, suc, ◌+◌, ◌-◌, ◌*◌, ◌^◌, ◌<◌, ◌≤◌, List, [], ◌∷◌, ◌++◌, length, sym, refl, ap, ◌∙◌, subst, add-one, arith, le-ltb, lt-ltb}
+use Rattle.std.proofs.Common.{◌≡◌, ℕ, zero, suc, ◌+◌, ◌-◌, ◌*◌, ◌<◌, ◌≤◌, List, [], ◌∷◌, ◌++◌, length, sym, refl, ap, ◌∙◌, add-one, arith, le-ltb, lt-ltb}
 use Rattle.std.proofs.ByRecursion.{All-get_or}
 use Rattle.std.proofs.lemmas.List.{length-append, length_push}
 use Rattle.words.specs.declared.kinds.Clock.TheVariants.{Base}
 use Rattle.words.specs.declared.kinds.Operand.TheVariants.{Literal as Constant}
-use Rattle.instructions.specs.declared.code_word.CodeWord.{CodeWord}
-use Rattle.instructions.specs.declared.code_word.CodeWord.TheVariants.{Head, Operand as With, Ports}
+use Rattle.instructions.specs.declared.code_word.CodeWord.TheVariants.{Head, Operand as With}
 use Rattle.reader.specs.declared.outline.Outline.{Outline}
 use Rattle.table.specs.Syntax.{Node, Table, node_at, variable_count}
 use Rattle.table.specs.Spelling.{VariableKeeps}

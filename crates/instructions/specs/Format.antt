@@ -1,6 +1,5 @@
 -- The words of code, and what a word of code is read as.
-use Rattle.std.specs.Prelude.{ℕ, ◌+◌, ◌*◌, ◌^◌, ◌<◌, Bool, true, false, cond, ◌≡◌, eqb}
-use Rattle.words.specs.declared.kinds.Operand.{Operand}
+use Rattle.std.specs.Prelude.{ℕ, ◌+◌, ◌*◌, ◌^◌, ◌<◌, cond, ◌≡◌, eqb}
 use Rattle.words.specs.declared.kinds.Operand.TheVariants.{Take, Literal as Constant}
 use Rattle.words.specs.Bits.{field, kind_of, is_set}
 use Rattle.words.specs.Format.{of_kind, operand_word, literal_in, OperandFits}

@@ -27,6 +27,18 @@ fn open<'a>(rt: &HostRuntime, path: &'a str) -> Result<File, Failure<'a>> {
     }
 }
 
+/// A reader over `source` that reads ahead. One that finds no memory for that cannot read.
+fn reading_ahead<'a, R: Read + Drop>(
+    rt: &HostRuntime,
+    name: &'a str,
+    source: R,
+) -> Result<BufReader<R>, Failure<'a>> {
+    match BufReader::new(rt.alloc(), source) {
+        Ok(input) => Ok(input),
+        Err(e) => Err(Failure::Read(name, e)),
+    }
+}
+
 /// Reads a line with its line feed into `line`. False: there is none left.
 fn next_line<'a, R: BufRead>(
     input: &mut R,
@@ -54,7 +66,7 @@ fn run_script<'a, R: Read + Drop>(
     name: &'a str,
     source: R,
 ) -> Result<(), Failure<'a>> {
-    let mut input = BufReader::new(rt.alloc(), source)?;
+    let mut input = reading_ahead(rt, name, source)?;
     let mut line = Vec::new(rt.alloc());
     let mut console = Console::new(rt.alloc());
     for _ in 0..u64::MAX {
@@ -68,7 +80,7 @@ fn run_script<'a, R: Read + Drop>(
 
 /// The words of a file, with white space between them.
 fn table_words<'a>(rt: &HostRuntime, path: &'a str) -> Result<Vec<u32>, Failure<'a>> {
-    let mut input = BufReader::new(rt.alloc(), open(rt, path)?)?;
+    let mut input = reading_ahead(rt, path, open(rt, path)?)?;
     let mut line = Vec::new(rt.alloc());
     let mut words = Vec::new(rt.alloc());
     for number in 1..u64::MAX {

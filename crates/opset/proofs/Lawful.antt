@@ -1,5 +1,5 @@
 -- A set of booleans beside one kind of number keeps the laws, whatever its arithmetic is. Assumes nothing.
-use Rattle.std.proofs.Common.{◌≡◌, ℕ, ◌<◌, Bool as Truth, true, false, eqb, pos, Some, None, Option, refl, ap, ⊎_elim, arith}
+use Rattle.std.proofs.Common.{◌≡◌, ℕ, ◌<◌, Bool as Truth, true, false, eqb, eq-eqb, pos, Some, None, Option, refl, ap, ⊎_elim, arith}
 use Rattle.std.proofs.lemmas.Bool.Decides.{nat_tests, eqb_tells}
 use Rattle.opset.specs.Meaning.{Laws}
 use Rattle.opset.specs.Scalars.{Arithmetic, scalars, present, performed, either_type, literal_of, unary_type, numbers_type, binary_type, on_bools, on_numbers, applied, truth_of, of_type}
@@ -83,3 +83,7 @@ scalars_lawful A ne = record {
   binary_else = binary_else A ne;
   truth_else = truth_else A.numeric;
 }
+
+-- the same by a test that computes, for a set to cite
+pub lawful_of : {N : Type 0} (A : Arithmetic N) → eqb A.numeric 0 ≡ false → Laws (scalars A)
+lawful_of A other = scalars_lawful A (λ e. let same : eqb A.numeric 0 ≡ true = eq-eqb A.numeric 0 e in cc)

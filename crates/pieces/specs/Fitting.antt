@@ -1,5 +1,5 @@
 -- Parts of equations that fit the fields of code words; a call by its place in a table's words.
-use Rattle.std.specs.Prelude.{ℕ, ◌+◌, ◌<◌, List, Some, None, Option}
+use Rattle.std.specs.Prelude.{ℕ, ◌+◌, List, Some, None, Option}
 use Rattle.words.specs.declared.kinds.Operand.{Operand}
 use Rattle.words.specs.Format.{OperandFits}
 use Rattle.table.specs.Access.{operands_at, gives_at}

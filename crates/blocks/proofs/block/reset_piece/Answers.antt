@@ -1,4 +1,4 @@
-use Rattle.std.proofs.Common.{◌≡◌, ◌-◌, ◌<◌, ◌≤◌, get_or, sym, ap, ◌∙◌, arith}
+use Rattle.std.proofs.Common.{◌≡◌, ◌-◌, ◌<◌, sym, ap, ◌∙◌, arith}
 use Rattle.table.specs.Decoding.{table_of}
 use Rattle.table.specs.Syntax.{equation_at, equation_count, node_at}
 use Rattle.code.specs.Statements.{call_reset}

@@ -1,4 +1,4 @@
-use Rattle.std.proofs.Common.{◌≡◌, ◌<◌, get_or, sym, ap, ◌∙◌, arith}
+use Rattle.std.proofs.Common.{◌<◌, get_or, sym, ap, ◌∙◌, arith}
 use Rattle.table.specs.Decoding.{table_of}
 use Rattle.table.specs.Syntax.{equation_at, equation_count, node_at}
 use Rattle.admission.specs.Admission.{no_places}
@@ -8,7 +8,6 @@ use Rattle.schedule.specs.Need.{needs}
 use Rattle.code.specs.Statements.{offset}
 use Rattle.waits.proofs.Small.{equations_few}
 use Rattle.pieces.proofs.Adding.{holds_first}
-use Rattle.blocks.specs.Numbered.{placed}
 use Rattle.blocks.proofs.Blocked.{step_end, turn_at}
 use Rattle.blocks.proofs.Needing.{offset_small}
 use Rattle.blocks.proofs.Placed.{place_below, place_is}

@@ -1,4 +1,4 @@
-use Rattle.std.proofs.Common.{◌<◌, length, arith}
+use Rattle.std.proofs.Common.{arith}
 use Rattle.table.specs.Decoding.{table_of}
 use Rattle.blocks.proofs.Measured.{measured_more}
 use Rattle.blocks.proofs.lengths.measure.Goals as goal

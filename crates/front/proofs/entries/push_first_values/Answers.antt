@@ -1,6 +1,5 @@
 use Rattle.std.proofs.Common.{◌≡◌, ◌<◌, ap, ◌∙◌, arith}
 use Rattle.table.specs.Decoding.{table_of}
-use Rattle.table.specs.Syntax.{node_at}
 use Rattle.rules.specs.Types.{type_of}
 use Rattle.code.specs.Code.{main_of}
 use Rattle.pieces.proofs.Adding.{adds_as, adds_join}

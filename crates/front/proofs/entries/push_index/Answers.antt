@@ -1,7 +1,6 @@
-use Rattle.std.proofs.Common.{◌≡◌, ◌^◌, ◌<◌, [], ◌∷◌, get_or, sym, ap, ◌∙◌, arith}
+use Rattle.std.proofs.Common.{[], ◌∷◌, get_or, ap, ◌∙◌, arith}
 use Rattle.instructions.specs.declared.code_word.CodeWord.TheVariants.{Need, ResetAt, StepAt}
 use Rattle.table.specs.Decoding.{table_of}
-use Rattle.schedule.specs.Need.{needs}
 use Rattle.code.specs.Code.{reset_at, step_at}
 use Rattle.blocks.proofs.Measured.{begins_within}
 use Rattle.pieces.proofs.Adding.{adds_as, adds_join}

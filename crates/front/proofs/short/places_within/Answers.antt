@@ -1,4 +1,4 @@
-use Rattle.std.proofs.Common.{◌≡◌, ◌≤◌, length, sym, ◌∙◌, inl, inr, arith}
+use Rattle.std.proofs.Common.{◌≡◌, length, sym, ◌∙◌, inl, inr, arith}
 use Rattle.front.specs.Whole.{table_code}
 use Rattle.front.proofs.Fitting.{code_length, fits_from, not_most, not_room}
 use Rattle.front.proofs.short.places_within.Goals as goal

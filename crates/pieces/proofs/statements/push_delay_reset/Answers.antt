@@ -1,4 +1,3 @@
-use Rattle.table.specs.Syntax.{delay}
 use Rattle.pieces.proofs.Fits.{drawn_fits}
 use Rattle.pieces.proofs.statements.push_delay_reset.Goals as goal
 

@@ -1,6 +1,5 @@
 use Rattle.std.proofs.Common.{◌≡◌, ◌+◌, ◌-◌, ◌<◌, [], ◌∷◌, ◌++◌, sym, ap, ◌∙◌, subst, arith}
 use Rattle.words.specs.declared.kinds.Clock.{Clock}
-use Rattle.words.specs.declared.kinds.Clock.TheVariants.{On}
 use Rattle.words.specs.Format.{ClockFits}
 use Rattle.instructions.specs.declared.code_word.CodeWord.TheVariants.{Unless}
 use Rattle.table.specs.Decoding.{table_of}
