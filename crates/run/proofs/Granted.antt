@@ -1,5 +1,5 @@
 -- What a call that is granted knows.
-use Rattle.std.proofs.Common.{◌≡◌, ℕ, ◌<◌, ◌≤◌, Bool, true, ltb, leb, List, length, Ok, Result, arith}
+use Rattle.std.proofs.Common.{◌≡◌, ℕ, ◌<◌, Bool, ltb, List, length, Ok, Result, arith}
 use Rattle.std.proofs.lemmas.Bool.{ltb-true, leb-true}
 use Rattle.opset.specs.Meaning.{Meaning}
 use Rattle.execution.specs.Words.{need_at}

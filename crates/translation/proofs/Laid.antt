@@ -1,5 +1,5 @@
 -- What is written in parts, one behind another, is written as a whole.
-use Rattle.std.proofs.Common.{◌≡◌, ℕ, ◌+◌, ◌≤◌, List, [], ◌++◌, map, length, take, drop, sym, refl, ap, ◌∙◌, subst, arith}
+use Rattle.std.proofs.Common.{◌≡◌, ℕ, ◌+◌, ◌≤◌, List, [], ◌++◌, map, length, take, drop, sym, ap, ◌∙◌, subst, arith}
 use Rattle.std.proofs.lemmas.List.{append_assoc, drop_at, drop-drop, length-append, length-drop, length-map, length-take, length-take-le, map-append, take-append-drop, take_at}
 use Rattle.instructions.specs.declared.code_word.CodeWord.{CodeWord}
 use Rattle.instructions.specs.Format.{code_word}

@@ -1,4 +1,4 @@
-use Rattle.std.proofs.Common.{◌≡◌, false, cond, get_or, sym, ap, ◌∙◌, add-one}
+use Rattle.std.proofs.Common.{false, cond, get_or, sym, ap, ◌∙◌, add-one}
 use Rattle.execution.specs.Cells.{stored}
 use Rattle.execution.specs.Sound.{input_type}
 use Rattle.calls.specs.Calls.{defaulted}

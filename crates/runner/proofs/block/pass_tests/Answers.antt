@@ -1,4 +1,4 @@
-use Rattle.std.proofs.Common.{◌≡◌, ◌<◌, ◌≤◌, length, sym, refl, ◌∙◌, arith, rules}
+use Rattle.std.proofs.Common.{◌<◌, length, sym, refl, ◌∙◌, arith, rules}
 use Rattle.runner.proofs.Places.{fine_in}
 use Rattle.runner.proofs.Instructions.{unless_cell, unless_on, unless_over}
 use Rattle.runner.proofs.block.pass_tests.Goals as goal

@@ -1,4 +1,4 @@
-use Rattle.std.proofs.Common.{◌≡◌, ◌+◌, ◌<◌, ◌≤◌, length, get_or, drop, sym, refl, ap, ◌∙◌, arith, rules}
+use Rattle.std.proofs.Common.{◌+◌, ◌<◌, ◌≤◌, length, get_or, drop, sym, refl, ap, ◌∙◌, arith, rules}
 use Rattle.execution.specs.Cells.{stored}
 use Rattle.execution.specs.Words.{operands_in, program}
 use Rattle.runner.proofs.Copying.{no_operand, operands_copied, take_cell, take_place, take_copied, literal_place, literal_copied}

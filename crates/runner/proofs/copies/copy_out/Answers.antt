@@ -1,4 +1,4 @@
-use Rattle.std.proofs.Common.{◌≡◌, ◌+◌, ◌<◌, ◌≤◌, length, drop, sym, refl, ◌∙◌, arith, rules}
+use Rattle.std.proofs.Common.{◌+◌, ◌<◌, ◌≤◌, length, drop, sym, refl, ◌∙◌, arith, rules}
 use Rattle.execution.specs.Words.{gives_in, program}
 use Rattle.runner.proofs.Copying.{no_give, gives_copied, give_cell, give_place, give_ahead, give_more}
 use Rattle.runner.proofs.copies.copy_out.Goals as goal

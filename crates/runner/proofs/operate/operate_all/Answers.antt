@@ -1,4 +1,4 @@
-use Rattle.std.proofs.Common.{◌≡◌, ◌<◌, ◌≤◌, length, sym, refl, ◌∙◌, arith, rules}
+use Rattle.std.proofs.Common.{◌≤◌, length, sym, refl, ◌∙◌, arith, rules}
 use Rattle.execution.specs.Words.{need_at}
 use Rattle.runner.proofs.Places.{fine_in}
 use Rattle.runner.proofs.Instructions.{operates, operate_reaches}

@@ -1,10 +1,10 @@
-use Rattle.std.proofs.Common.{◌≡◌, ℕ, ◌+◌, ◌≤◌, Bool, true, cond, List, ◌++◌, length, get_or, drop, Ok, Err, sym, ap, ◌∙◌, subst, arith}
+use Rattle.std.proofs.Common.{◌≡◌, ℕ, cond, List, ◌++◌, length, get_or, drop, Ok, Err, sym, ap, ◌∙◌, subst, arith}
 use Rattle.words.specs.Bits.{field}
 use Rattle.table.specs.Decoding.{table_of}
 use Rattle.admission.specs.declared.found.Plan.{Plan}
 use Rattle.admission.specs.Planned.{Planned}
 use Rattle.code.specs.Code.{blocks, front}
-use Rattle.front.specs.Whole.{fits_in, table_code}
+use Rattle.front.specs.Whole.{table_code}
 use Rattle.front.proofs.Fitting.{code_length, code_parts, fits_bounds}
 use Rattle.front.proofs.Fronts.{front_length_lem}
 use Rattle.translation.specs.declared.faults.TranslateFault.TheVariants.{TooLong}

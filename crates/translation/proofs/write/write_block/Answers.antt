@@ -1,7 +1,7 @@
-use Rattle.std.proofs.Common.{◌≡◌, ◌+◌, ◌<◌, ◌≤◌, length, sym, ap, ◌∙◌, arith}
+use Rattle.std.proofs.Common.{◌≡◌, length, sym, ap, ◌∙◌, arith}
 use Rattle.table.specs.Decoding.{table_of}
 use Rattle.table.specs.Syntax.{node_at}
-use Rattle.blocks.specs.Numbered.{block_piece, block_words, piece_count, up_to}
+use Rattle.blocks.specs.Numbered.{block_piece, piece_count, up_to}
 use Rattle.blocks.proofs.Blocked.{block_pieces}
 use Rattle.blocks.proofs.Placed.{order_long}
 use Rattle.blocks.proofs.Runs.{run_more, run_none, run_within}

@@ -1,8 +1,6 @@
-use Rattle.std.proofs.Common.{◌≡◌, ◌+◌, ◌<◌, ◌≤◌, length, sym, ap, ◌∙◌, arith}
+use Rattle.std.proofs.Common.{◌≡◌, ◌<◌, length, sym, ap, arith}
 use Rattle.table.specs.Decoding.{table_of}
 use Rattle.code.specs.Code.{blocks}
-use Rattle.blocks.specs.declared.block.Block.TheVariants.{Resets, Steps}
-use Rattle.blocks.specs.Numbered.{block_words}
 use Rattle.blocks.proofs.Measured.{block_within, blocks_more}
 use Rattle.translation.proofs.Laid.{wrote_as, wrote_join, wrote_none}
 use Rattle.translation.proofs.write.write_blocks.Goals as goal

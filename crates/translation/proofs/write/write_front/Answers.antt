@@ -1,4 +1,4 @@
-use Rattle.std.proofs.Common.{◌≡◌, ◌+◌, ◌<◌, ◌≤◌, length, get_or, sym, ap, ◌∙◌, arith}
+use Rattle.std.proofs.Common.{◌≡◌, ◌+◌, length, get_or, sym, ap, ◌∙◌, arith}
 use Rattle.words.specs.Bits.{field}
 use Rattle.table.specs.Decoding.{table_of}
 use Rattle.blocks.specs.Numbered.{up_to}
