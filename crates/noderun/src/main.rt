@@ -11,6 +11,7 @@ use listing::Listing;
 use std::alloc::AllocError;
 use std::fs::File;
 use std::io::{BufRead, BufReader, Read};
+use std::process::ExitCode;
 use std::{env, fs, io};
 
 const USAGE: &str = "usage: noderun              carry out the script on standard input
@@ -113,13 +114,13 @@ fn carry_out<'a>(rt: &HostRuntime, command: Command<'a>) -> Result<(), Failure<'
     }
 }
 
-fn main(rt: HostRuntime) -> io::Result<()> {
+fn main(rt: HostRuntime) -> io::Result<ExitCode> {
     let words: Vec<String> = env::args(&rt)?.skip(1).collect(rt.alloc())?;
     match carry_out(&rt, Command::of(words.as_slice())) {
-        Ok(()) => Ok(()),
+        Ok(()) => Ok(ExitCode::SUCCESS),
         Err(failure) => {
             eprintln!(rt; "noderun: {failure}")?;
-            Err(io::Error::from(io::ErrorKind::Other))
+            Ok(ExitCode::FAILURE)
         }
     }
 }

@@ -6,7 +6,7 @@ ghost use Rattle.calls.specs.Calls.{at_rest, in_instant, BeginsInstant, Opens, R
 ghost use Rattle.calls.specs.Promise.{Promise};
 ghost use Rattle.run.specs.Answers.{ended_of};
 
-use crate::code::Code;
+use crate::bound_code::Code;
 use crate::front::{input_count, main_node};
 use crate::refusing::{test_moving, test_read, test_set};
 use crate::state::{Instant, Rest, Unbegun};

@@ -4,7 +4,7 @@ ghost use Rattle.execution.specs.Words.{need_at};
 ghost use Rattle.execution.specs.Sound.{main_in};
 ghost use Rattle.calls.specs.Calls.{at_rest, in_instant, Offers, Passes, Steps, stepped_by};
 
-use crate::code::Code;
+use crate::bound_code::Code;
 use crate::front::main_node;
 use crate::inputs::give_defaults;
 use crate::refusing::{test_moving, test_offer, test_set};

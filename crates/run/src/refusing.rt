@@ -5,7 +5,7 @@ ghost use Rattle.execution.specs.Sound.{input_type, inputs_in, outputs_in};
 ghost use Rattle.calls.specs.Calls.{memory_refusal, moving_refusal, offer_refusal, outcome, read_refusal, set_refusal, unless};
 ghost use Rattle.calls.specs.declared.refusal.Refusal.TheVariants.{Port as NoPort, Mistyped as WrongType, Twice as Again, Early as TooEarly};
 
-use crate::code::Code;
+use crate::bound_code::Code;
 use crate::front::{input_count, input_type, main_need, output_count, set_of};
 use calls::{Ended, Refusal};
 use opset::OperatorSet;
