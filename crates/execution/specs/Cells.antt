@@ -1,4 +1,4 @@
--- A list of cells, and what is stored in it. Cells are read as an instant's variables are: cell x of `cells` is `nth cells x`.
+-- A list of cells, and what is stored in it. Cells are read as an instant's variables are: cell x of `cells` is `slice_get cells x`.
 use Rattle.std.specs.Prelude.{ℕ, ◌+◌, List, [], ◌∷◌, ◌++◌, length, take, drop, Some, None, Option, slice_set}
 use Rattle.std.specs.List.{slice_get}
 use Rattle.opset.specs.Meaning.{Meaning}

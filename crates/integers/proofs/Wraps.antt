@@ -1,4 +1,4 @@
--- What wrapping is: the kit's `wrapped` at 32 bits, and so the one congruent number of the range. Assumes nothing.
+-- What wrapping is: the kit's `int_wrap` at 32 bits, and so the one congruent number of the range. Assumes nothing.
 use Rattle.std.proofs.Common.{◌≡◌, ℕ, suc, ◌-◌, ◌/◌, ◌^◌, ◌<◌, ◌≤◌, ℤ, pos, negsuc, ◌+ℤ◌, ◌*ℤ◌, neg_ℤ, sym, ap, ◌∙◌, subst, ⊎_elim, le_of_suc-le-suc, arith, w32, SFits}
 use lib.IntN.{+ℤ_idr, *ℤ-zero}
 use lib.Signed.{mag}

@@ -1,8 +1,8 @@
-// Code: words that binding found to be the code of a table.
+// Code: words that are known to run untested.
 ghost use Rattle.std.specs.Prelude.{◌≡◌};
 ghost use Rattle.execution.specs.Sound.{Sound};
 
-/// Code that can be run: words that begin with the code of a table. Only what binding found of them makes one.
+/// Code that can be run: words that are sound. Only that fact makes one.
 #[derive(Clone, Copy)]
 pub struct Code<'a> {
     words: &'a [u32],
@@ -10,7 +10,7 @@ pub struct Code<'a> {
 }
 
 impl<'a> Code<'a> {
-    /// The code that binding found the words to be.
+    /// The code of words that are sound.
     pub fn of(words: &'a [u32]) -> Code<'a>
         requires { Sound words.now }
         ensures { result.words.now ≡ words.now }
